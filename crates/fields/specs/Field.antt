@@ -1,0 +1,27 @@
+-- Document 01: "All fields are unsigned, most significant byte first." A field is a big-endian number.
+-- Everything is over the width w in bytes: 2, 4 and 8 are the widths in use.
+use Prim.Native.Nat.{ℕ, zero, suc, _+_, _*_, _/_, _%_}
+use mathlib.Core.List.{List, [], _∷_, _++_}
+use lib.ListN.{take, drop}
+
+-- the number that bytes spell behind those that spelled n
+unfoldable pub numberAfter : ℕ → List ℕ → ℕ
+numberAfter n [] = n
+numberAfter n (byte ∷ rest) = numberAfter (n * 256 + byte) rest
+
+-- the number that bytes spell, the first byte the most significant
+abbrev pub number : List ℕ → ℕ
+number s = numberAfter 0 s
+
+-- the w bytes of a number, the last byte the least significant
+unfoldable pub bytes : ℕ → ℕ → List ℕ
+bytes zero n = []
+bytes (suc w) n = bytes w (n / 256) ++ (n % 256 ∷ [])
+
+-- the number in the w bytes of s from a place on
+abbrev pub field : List ℕ → ℕ → ℕ → ℕ
+field s at w = number (take w (drop at s))
+
+-- s with a number written into the w bytes from a place on: each other byte is as it was
+abbrev pub written : List ℕ → ℕ → ℕ → ℕ → List ℕ
+written s at w n = take at s ++ (bytes w n ++ drop (at + w) s)
