@@ -25,3 +25,8 @@ field s at w = number (take w (drop at s))
 -- s with a number written into the w bytes from a place on: each other byte is as it was
 abbrev pub written : List ℕ → ℕ → ℕ → ℕ → List ℕ
 written s at w n = take at s ++ (bytes w n ++ drop (at + w) s)
+
+-- numbers one behind the other, w bytes each
+unfoldable pub bytesOfEach : ℕ → List ℕ → List ℕ
+bytesOfEach w [] = []
+bytesOfEach w (n ∷ ns) = bytes w n ++ bytesOfEach w ns

@@ -1,0 +1,90 @@
+-- Document 01, "Choice, floor, bisection", steps 1 to 4: dual bisection. Steps 2 to 4 ask of an allocation only its net, so they are stated over any type of allocations.
+use Prim.Native.Nat.{ℕ, zero, suc, _+_, _*_, _-_, _/_, _^_}
+use mathlib.Core.Bool.{Bool, cond, not, _&&_}
+use mathlib.Core.List.{List, [], _∷_, map}
+use lib.Dec.{leb, eqb, ltb}
+use lib.IntN.{ℤ, pos, negsuc, _-ℤ_}
+use lib.ListN.{length}
+use Rattle.rules.specs.Lists.{all, greatest}
+use Rattle.rules.specs.Unit.{totalCost, totalNet, covers, Offer, Problem, unitsOf}
+use Rattle.rules.specs.Choice.{choices, greatestFloor}
+
+-- what the search found: its best allocation, and the multipliers that it evaluated, the last one first
+pub record Found (X : Type 0) : Type 0 where
+  pub best : X
+  pub evaluated : List ℕ
+
+-- `choose m` are the choices of m; an allocation covers if its net is at least `target`
+module _ {X : Type 0} (choose : ℕ → X) (net : X → ℕ) (target : ℕ) where
+  -- "4. With low 0 and high 65,536, halve until high − low is 1: evaluate the middle (low + high) / 2. Equal net: it is the best, stop. Covering: it is the best and the new high. Else: the new low."
+  -- high − low is 2 ^ k: it starts at 2 ^ 16, and half of 2 ^ (k + 1) is 2 ^ k.
+  unfoldable pub step4 : ℕ → ℕ → X → List ℕ → Found X
+  step4 zero low best seen = record { best = best; evaluated = seen }
+  step4 (suc k) low best seen =
+      let high = low + 2 ^ suc k in
+      let middle = (low + high) / 2 in
+      let x = choose middle in
+      let lower-half = step4 k low x (middle ∷ seen) in
+      let upper-half = step4 k middle best (middle ∷ seen) in
+      let ended : Found X = record { best = x; evaluated = middle ∷ seen } in
+      cond (eqb (net x) target) ended (cond (leb target (net x)) lower-half upper-half)
+
+  -- "3. Evaluate 65,536. If its choices don't cover, stop with the best. If they do, they are the best; stop if the net equals the demand."
+  unfoldable pub step3 : X → Found X
+  step3 first =
+      let x = choose 65536 in
+      let seen : List ℕ = 65536 ∷ 0 ∷ [] in
+      let halved = step4 16 0 x seen in
+      let ended : Found X = record { best = x; evaluated = seen } in
+      let uncovered : Found X = record { best = first; evaluated = seen } in
+      cond (leb target (net x)) (cond (eqb (net x) target) ended halved) uncovered
+
+  -- "2. Evaluate 0. If its choices cover d, they are the answer; stop."
+  unfoldable pub search : X → Found X
+  search first =
+      let x = choose 0 in
+      let next = step3 first in
+      let ended : Found X = record { best = x; evaluated = 0 ∷ [] } in
+      cond (leb target (net x)) ended next
+
+-- ---- of a problem
+
+-- the greatest outputs that the units may be given
+unfoldable pub greatestOutputs : Problem → List ℕ
+greatestOutputs q = map (λ o. greatest (o .outputs)) (q .offers)
+
+-- "1. If some unit has no permitted output, or the greatest permitted outputs don't cover d, refuse with 11. Otherwise they are the first best."
+unfoldable pub solvable : Problem → Bool
+solvable q =
+    all (λ o. ltb 0 (length (o .outputs))) (q .offers) && covers (q .demand) (totalNet (unitsOf q) (greatestOutputs q))
+
+unfoldable pub found : Problem → Found (List ℕ)
+found q = search (λ m. choices m q) (totalNet (unitsOf q)) (100000000 * q .demand) (greatestOutputs q)
+
+-- an integer that is not negative, as a natural number
+unfoldable pub natural : ℤ → ℕ
+natural (pos n) = n
+natural (negsuc n) = 0
+
+-- ---- "Gap = cost of the best − the greatest floor evaluated. Surplus = net of the best − 100,000,000 × d. Evaluations = 1 if step 2 stops, 2 if step 3 stops, else 2 + the number of middles evaluated in step 4."
+-- (Gap and surplus are never negative: see `Promise`.)
+
+pub record Reply : Type 0 where
+  pub evaluations : ℕ
+  pub cost : ℕ
+  pub gap : ℕ
+  pub surplus : ℕ
+  pub outputs : List ℕ
+
+unfoldable pub replyOf : Problem → Found (List ℕ) → Reply
+replyOf q f =
+    record {
+      evaluations = length (f .evaluated);
+      cost = totalCost (unitsOf q) (f .best);
+      gap = natural (pos (totalCost (unitsOf q) (f .best)) -ℤ greatestFloor q (f .evaluated));
+      surplus = totalNet (unitsOf q) (f .best) - 100000000 * q .demand;
+      outputs = f .best;
+    }
+
+unfoldable pub solve : Problem → Reply
+solve q = replyOf q (found q)

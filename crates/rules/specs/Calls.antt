@@ -1,0 +1,177 @@
+-- Document 01, "The reply" and "What each contract says": for each public call, on every input, its answer and the final contents of every buffer that it was lent.
+-- A refusal leaves each buffer as it was; otherwise the call's output stands at the buffer's start, and the rest is untouched.
+use Prim.Native.Nat.{ℕ, _+_, _*_, _%_}
+use mathlib.Core.Bool.{Bool, true, false, cond, not, _||_}
+use mathlib.Core.List.{List, [], _∷_, _++_, map}
+use lib.Dec.{ltb, eqb}
+use lib.IntN.{ℤ, pos}
+use lib.ListN.{length, drop}
+use Rattle.fields.specs.Field.{bytes, bytesOfEach}
+use Rattle.rules.specs.Lists.{sum}
+use Rattle.rules.specs.Layout.{Unit, Case, caseOf, unitsOfRows, rowsOfUnits, bodyLength, fileOf}
+use Rattle.rules.specs.Refusal.{numberOf, _refuses_, _then_, inOrder, fileVerdict, unitVerdict}
+use Rattle.rules.specs.Unit.{Problem, problemOf, unitsOf, totalNet, covers}
+use Rattle.rules.specs.Choice.{choices, dualValue}
+use Rattle.rules.specs.Bisection.{Reply, solvable, solve}
+use Rattle.rules.specs.declared.Refusal.{Refusal}
+use Rattle.rules.specs.declared.Refusal.the-variants.{
+  BufferTooShort,
+  NoAllocation,
+  RowsInvalid,
+  FileBufferTooShort,
+  MultiplierOutOfRange,
+  DemandOutOfRange,
+}
+use Rattle.rules.specs.declared.Verdict.{Verdict}
+use Rattle.rules.specs.declared.Dispatched.{Dispatched}
+use Rattle.rules.specs.declared.Priced.{Priced}
+use Rattle.rules.specs.declared.Packed.{Packed}
+use Rattle.rules.specs.declared.Unpacked.{Unpacked}
+
+-- a buffer with something at its start
+abbrev pub over : {A : Type 0} → List A → List A → List A
+over s buffer = s ++ drop (length s) buffer
+
+-- the problem in a file's bytes
+abbrev pub problemIn : List ℕ → Problem
+problemIn file = problemOf (caseOf file)
+
+-- ---- dispatch
+
+-- "n (16 bits), evaluations (16), cost (64), gap (64), surplus (64), and from byte 28 the n outputs, 16 bits each"
+unfoldable pub replyBytes : Reply → List ℕ
+replyBytes r =
+    bytes 2 (length (r .outputs)) ++ bytes 2 (r .evaluations) ++ bytes 8 (r .cost) ++ bytes 8 (r .gap) ++ bytes 8 (r .surplus)
+    ++ bytesOfEach 2 (r .outputs)
+
+pub record DispatchResult : Type 0 where
+  pub answer : Dispatched
+  pub reply : List ℕ
+
+unfoldable pub dispatchVerdict : List ℕ → List ℕ → Verdict
+dispatchVerdict file reply =
+    ltb (length reply) 92 refuses BufferTooShort
+    then fileVerdict file
+    then not (solvable (problemIn file)) refuses NoAllocation
+
+unfoldable pub dispatchEnds : Verdict → List ℕ → List ℕ → DispatchResult
+dispatchEnds (Verdict.Refused r) file reply = record { answer = Dispatched.Refused r; reply = reply }
+dispatchEnds Verdict.Accepted file reply =
+    let out = replyBytes (solve (problemIn file)) in
+    record { answer = Dispatched.Replied (length out); reply = over out reply }
+
+unfoldable pub dispatched : List ℕ → List ℕ → DispatchResult
+dispatched file reply = dispatchEnds (dispatchVerdict file reply) file reply
+
+-- ---- pricing: "takes a file and an m and returns the dual value and whether the choices cover d; it runs step 1 first"
+
+unfoldable pub priceVerdict : List ℕ → ℕ → Verdict
+priceVerdict file m =
+    ltb 65536 m refuses MultiplierOutOfRange
+    then fileVerdict file
+    then not (solvable (problemIn file)) refuses NoAllocation
+
+unfoldable pub priceEnds : Verdict → List ℕ → ℕ → Priced
+priceEnds (Verdict.Refused r) file m = Priced.Refused r
+priceEnds Verdict.Accepted file m =
+    let q = problemIn file in
+    Priced.Valued (dualValue m q) (covers (q .demand) (totalNet (unitsOf q) (choices m q)))
+
+unfoldable pub priced : List ℕ → ℕ → Priced
+priced file m = priceEnds (priceVerdict file m) file m
+
+-- ---- packing: "takes the demand and rows, and returns the file's length"
+
+pub record PackResult : Type 0 where
+  pub answer : Packed
+  pub file : List ℕ
+
+-- the length of the file of some units: head, contents, bodies
+abbrev pub fileLength : List Unit → ℕ
+fileLength us = 8 + 4 * length us + sum (map (λ u. bodyLength (u .zoneCount)) us)
+
+unfoldable pub packVerdict : ℕ → List ℕ → List ℕ → Verdict
+packVerdict d rows file =
+    (eqb (length rows) 0 || not (eqb (length rows % 19) 0) || ltb 608 (length rows)) refuses RowsInvalid
+    then ltb 320000 d refuses DemandOutOfRange
+    then inOrder (map unitVerdict (unitsOfRows rows))
+    then ltb (length file) (fileLength (unitsOfRows rows)) refuses FileBufferTooShort
+
+unfoldable pub packEnds : Verdict → ℕ → List ℕ → List ℕ → PackResult
+packEnds (Verdict.Refused r) d rows file = record { answer = Packed.Refused r; file = file }
+packEnds Verdict.Accepted d rows file =
+    let out = fileOf d (unitsOfRows rows) in
+    record { answer = Packed.Written (length out); file = over out file }
+
+unfoldable pub packed : ℕ → List ℕ → List ℕ → PackResult
+packed d rows file = packEnds (packVerdict d rows file) d rows file
+
+-- ---- unpacking: "returns the demand and count, and writes n rows"
+
+pub record UnpackResult : Type 0 where
+  pub answer : Unpacked
+  pub rows : List ℕ
+
+unfoldable pub unpackVerdict : List ℕ → List ℕ → Verdict
+unpackVerdict file rows = ltb (length rows) 608 refuses BufferTooShort then fileVerdict file
+
+unfoldable pub unpackEnds : Verdict → List ℕ → List ℕ → UnpackResult
+unpackEnds (Verdict.Refused r) file rows = record { answer = Unpacked.Refused r; rows = rows }
+unpackEnds Verdict.Accepted file rows =
+    let c = caseOf file in
+    record { answer = Unpacked.Read (c .demand) (length (c .units)); rows = over (rowsOfUnits (c .units)) rows }
+
+unfoldable pub unpacked : List ℕ → List ℕ → UnpackResult
+unpacked file rows = unpackEnds (unpackVerdict file rows) file rows
+
+-- ---- the panel's calls, in C: "dispatch and packing return the length or the refusal number. Pricing and unpacking write their two answers into the start of a lent list of signed 64-bit numbers and return 0, or a refusal number; a list under two numbers is 1, in pricing after 14."
+
+abbrev pub numberOfDispatched : Dispatched → ℕ
+numberOfDispatched (Dispatched.Replied n) = n
+numberOfDispatched (Dispatched.Refused r) = numberOf r
+
+abbrev pub numberOfPacked : Packed → ℕ
+numberOfPacked (Packed.Written n) = n
+numberOfPacked (Packed.Refused r) = numberOf r
+
+abbrev pub numberOfPriced : Priced → ℕ
+numberOfPriced (Priced.Valued z c) = 0
+numberOfPriced (Priced.Refused r) = numberOf r
+
+abbrev pub numberOfUnpacked : Unpacked → ℕ
+numberOfUnpacked (Unpacked.Read d n) = 0
+numberOfUnpacked (Unpacked.Refused r) = numberOf r
+
+-- the two answers in the start of a lent list
+abbrev pub answersOfPriced : Priced → List ℤ → List ℤ
+answersOfPriced (Priced.Valued z c) answers = over (z ∷ cond c (pos 1) (pos 0) ∷ []) answers
+answersOfPriced (Priced.Refused r) answers = answers
+
+abbrev pub answersOfUnpacked : Unpacked → List ℤ → List ℤ
+answersOfUnpacked (Unpacked.Read d n) answers = over (pos d ∷ pos n ∷ []) answers
+answersOfUnpacked (Unpacked.Refused r) answers = answers
+
+pub record PanelPriceResult : Type 0 where
+  pub number : ℕ
+  pub answers : List ℤ
+
+unfoldable pub panelPriced : List ℕ → ℕ → List ℤ → PanelPriceResult
+panelPriced file m answers =
+    let verdict = ltb 65536 m refuses MultiplierOutOfRange then ltb (length answers) 2 refuses BufferTooShort then priceVerdict file m in
+    let answer = priceEnds verdict file m in
+    record { number = numberOfPriced answer; answers = answersOfPriced answer answers }
+
+pub record PanelUnpackResult : Type 0 where
+  pub number : ℕ
+  pub rows : List ℕ
+  pub answers : List ℤ
+
+unfoldable pub panelUnpacked : List ℕ → List ℕ → List ℤ → PanelUnpackResult
+panelUnpacked file rows answers =
+    let verdict = ltb (length answers) 2 refuses BufferTooShort then unpackVerdict file rows in
+    let result = unpackEnds verdict file rows in
+    record {
+      number = numberOfUnpacked (result .answer);
+      rows = result .rows;
+      answers = answersOfUnpacked (result .answer) answers;
+    }

@@ -1,0 +1,137 @@
+-- Document 01, "The case file": a unit, the planner's row and the file's body that spell it, and the whole file. Fields are big-endian (`fields`).
+use Prim.Native.Nat.{ℕ, _+_, _*_, _/_}
+use mathlib.Core.Bool.{cond}
+use mathlib.Core.List.{List, [], _∷_, _++_}
+use lib.Dec.{ltb}
+use lib.ListN.{length, getD, take, drop}
+use Rattle.fields.specs.Field.{field, bytes, bytesOfEach}
+use Rattle.rules.specs.Lists.{each}
+
+-- A unit is a generating unit (a set): the nineteen numbers of a row, by name.
+pub record Unit : Type 0 where
+  pub c0 : ℕ  -- cost coefficients: constant, linear, quadratic
+  pub c1 : ℕ
+  pub c2 : ℕ
+  pub b : ℕ  -- loss coefficient
+  pub least : ℕ  -- running outputs, in steps of 0.1 MW
+  pub greatest : ℕ
+  pub previous : ℕ  -- previous output and ramp limits
+  pub up : ℕ
+  pub down : ℕ
+  pub mark : ℕ  -- 0 may stand, 1 must run
+  pub zoneCount : ℕ
+  pub edges : List ℕ  -- four pairs of lower and upper edge, zero where unused
+
+-- a prohibited operating zone
+pub record Zone : Type 0 where
+  pub lower : ℕ
+  pub upper : ℕ
+
+-- the zones in use: as many pairs of edges as the unit's count says
+unfoldable pub zones : Unit → List Zone
+zones u = each (u .zoneCount) (λ k. record { lower = getD (u .edges) (2 * k) 0; upper = getD (u .edges) (2 * k + 1) 0 })
+
+-- ---- "The planner's rows are a lent list of 32-bit numbers, 19 to a unit: the eleven numbers before the edges in body order, then four pairs of edges, zero where unused."
+
+unfoldable pub unitOfRow : List ℕ → Unit
+unitOfRow row =
+    record {
+      c0 = getD row 0 0;
+      c1 = getD row 1 0;
+      c2 = getD row 2 0;
+      b = getD row 3 0;
+      least = getD row 4 0;
+      greatest = getD row 5 0;
+      previous = getD row 6 0;
+      up = getD row 7 0;
+      down = getD row 8 0;
+      mark = getD row 9 0;
+      zoneCount = getD row 10 0;
+      edges = take 8 (drop 11 row);
+    }
+
+unfoldable pub rowOfUnit : Unit → List ℕ
+rowOfUnit u =
+    u .c0 ∷ u .c1 ∷ u .c2 ∷ u .b ∷ u .least ∷ u .greatest ∷ u .previous ∷ u .up ∷ u .down ∷ u .mark ∷ u .zoneCount ∷ u .edges
+
+unfoldable pub unitsOfRows : List ℕ → List Unit
+unitsOfRows rows = each (length rows / 19) (λ i. unitOfRow (take 19 (drop (19 * i) rows)))
+
+unfoldable pub rowsOfUnits : List Unit → List ℕ
+rowsOfUnits [] = []
+rowsOfUnits (u ∷ us) = rowOfUnit u ++ rowsOfUnits us
+
+-- ---- a body: the table "at, bits, field"
+
+-- edge k of a body with z zones; the unused ones are zero
+unfoldable pub edgeOfBody : List ℕ → ℕ → ℕ → ℕ
+edgeOfBody body z k = cond (ltb k (2 * z)) (field body (26 + 2 * k) 2) 0
+
+unfoldable pub unitOfBody : List ℕ → Unit
+unitOfBody body =
+    record {
+      c0 = field body 0 4;
+      c1 = field body 4 4;
+      c2 = field body 8 2;
+      b = field body 10 2;
+      least = field body 12 2;
+      greatest = field body 14 2;
+      previous = field body 16 2;
+      up = field body 18 2;
+      down = field body 20 2;
+      mark = field body 22 2;
+      zoneCount = field body 24 2;
+      edges = each 8 (edgeOfBody body (field body 24 2));
+    }
+
+-- "the length is 26 + 4z"
+abbrev pub bodyLength : ℕ → ℕ
+bodyLength z = 26 + 4 * z
+
+unfoldable pub bodyOfUnit : Unit → List ℕ
+bodyOfUnit u =
+    bytes 4 (u .c0) ++ bytes 4 (u .c1) ++ bytes 2 (u .c2) ++ bytes 2 (u .b) ++ bytes 2 (u .least) ++ bytes 2 (u .greatest)
+    ++ bytes 2 (u .previous) ++ bytes 2 (u .up) ++ bytes 2 (u .down) ++ bytes 2 (u .mark) ++ bytes 2 (u .zoneCount)
+    ++ bytesOfEach 2 (take (2 * u .zoneCount) (u .edges))
+
+-- ---- the file: "Head, 8 bytes: edition, unit count n, demand d. Contents: n entries of offset and length, 16 bits each."
+
+abbrev pub edition : List ℕ → ℕ
+edition file = field file 0 2
+
+abbrev pub count : List ℕ → ℕ
+count file = field file 2 2
+
+abbrev pub demand : List ℕ → ℕ
+demand file = field file 4 4
+
+-- the entry of unit i, counted from 0
+abbrev pub offset : List ℕ → ℕ → ℕ
+offset file i = field file (8 + 4 * i) 2
+
+abbrev pub size : List ℕ → ℕ → ℕ
+size file i = field file (10 + 4 * i) 2
+
+-- "A body is read as the part of the file that its entry names."
+abbrev pub body : List ℕ → ℕ → List ℕ
+body file i = take (size file i) (drop (offset file i) file)
+
+-- A case is a dispatch problem's data: the demand and the units.
+pub record Case : Type 0 where
+  pub demand : ℕ
+  pub units : List Unit
+
+unfoldable pub caseOf : List ℕ → Case
+caseOf file = record { demand = demand file; units = each (count file) (λ i. unitOfBody (body file i)) }
+
+-- the entries of units whose bodies start at a place
+unfoldable pub contentsFrom : ℕ → List Unit → List ℕ
+contentsFrom at [] = []
+contentsFrom at (u ∷ us) = bytes 2 at ++ bytes 2 (bodyLength (u .zoneCount)) ++ contentsFrom (at + bodyLength (u .zoneCount)) us
+
+unfoldable pub bodiesOf : List Unit → List ℕ
+bodiesOf [] = []
+bodiesOf (u ∷ us) = bodyOfUnit u ++ bodiesOf us
+
+unfoldable pub fileOf : ℕ → List Unit → List ℕ
+fileOf d us = bytes 2 1 ++ bytes 2 (length us) ++ bytes 4 d ++ contentsFrom (8 + 4 * length us) us ++ bodiesOf us

@@ -1,0 +1,9 @@
+pub mod Lists
+pub mod Layout
+pub mod Refusal
+pub mod Unit
+pub mod Choice
+pub mod Bisection
+pub mod Calls
+pub mod Promise
+pub mod Table

@@ -1,0 +1,112 @@
+-- Document 01, "Refusals by the place of checking": "Each returns only its number. Within a place the numbers are checked as listed."
+use Prim.Native.Nat.{ℕ, zero, suc, _+_, _*_}
+use mathlib.Core.Bool.{Bool, cond, not, _&&_, _||_}
+use mathlib.Core.List.{List, [], _∷_}
+use lib.Dec.{ltb, leb, eqb}
+use lib.ListN.{length, drop}
+use Rattle.rules.specs.Lists.{each, all}
+use Rattle.rules.specs.Layout.{Unit, Zone, zones, unitOfBody, bodyLength, edition, count, demand, offset, size, body}
+use Rattle.rules.specs.declared.Refusal.{Refusal}
+use Rattle.rules.specs.declared.Refusal.the-variants.{
+  BufferTooShort,
+  FileTooShort,
+  EditionUnknown,
+  CountOutOfRange,
+  DemandOutOfRange,
+  ContentsInvalid,
+  ZoneCountInvalid,
+  CoefficientOutOfRange,
+  LimitsInvalid,
+  RampOrMarkOutOfRange,
+  NoAllocation,
+  RowsInvalid,
+  FileBufferTooShort,
+  MultiplierOutOfRange,
+}
+use Rattle.rules.specs.declared.Verdict.{Verdict}
+use Rattle.rules.specs.declared.Verdict.the-variants.{Accepted, Refused}
+
+infixl 21 _refuses_
+infixr 20 _then_
+abbrev pub numberOf : Refusal → ℕ
+numberOf BufferTooShort = 1
+numberOf FileTooShort = 2
+numberOf EditionUnknown = 3
+numberOf CountOutOfRange = 4
+numberOf DemandOutOfRange = 5
+numberOf ContentsInvalid = 6
+numberOf ZoneCountInvalid = 7
+numberOf CoefficientOutOfRange = 8
+numberOf LimitsInvalid = 9
+numberOf RampOrMarkOutOfRange = 10
+numberOf NoAllocation = 11
+numberOf RowsInvalid = 12
+numberOf FileBufferTooShort = 13
+numberOf MultiplierOutOfRange = 14
+
+-- a condition that refuses, and one check after another
+abbrev pub _refuses_ : Bool → Refusal → Verdict
+condition refuses r = cond condition (Refused r) Accepted
+
+abbrev pub _then_ : Verdict → Verdict → Verdict
+Accepted then next = next
+Refused r then next = Refused r
+
+abbrev pub inOrder : List Verdict → Verdict
+inOrder [] = Accepted
+inOrder (v ∷ vs) = v then inOrder vs
+
+-- ---- head
+
+unfoldable pub headVerdict : List ℕ → Verdict
+headVerdict file =
+    ltb (length file) 8 refuses FileTooShort
+    then not (eqb (edition file) 1) refuses EditionUnknown
+    then (ltb (count file) 1 || ltb 32 (count file)) refuses CountOutOfRange
+    then ltb 320000 (demand file) refuses DemandOutOfRange
+
+-- ---- contents: "Body 1 starts at 8 + 4n, each later body where the one before ends, and the last ends with the file. A length is 26, 30, 34, 38 or 42."
+
+abbrev pub start : List ℕ → ℕ → ℕ
+start file zero = 8 + 4 * count file
+start file (suc i) = offset file i + size file i
+
+abbrev pub legalSize : ℕ → Bool
+legalSize l = eqb l 26 || eqb l 30 || eqb l 34 || eqb l 38 || eqb l 42
+
+abbrev pub entryFits : List ℕ → ℕ → Bool
+entryFits file i = eqb (offset file i) (start file i) && legalSize (size file i)
+
+unfoldable pub contentsVerdict : List ℕ → Verdict
+contentsVerdict file =
+    (ltb (length file) (8 + 4 * count file)
+    || not (all (entryFits file) (each (count file) (λ i. i)))
+    || not (eqb (start file (count file)) (length file))) refuses ContentsInvalid
+
+-- ---- body, unit by unit. Files and rows share these checks: a row has no length, and may have an unused edge that is not zero.
+
+-- "least < first lower edge; lower < upper in each zone; an upper edge < the next lower edge; last upper edge < greatest"
+unfoldable pub zonesAscend : ℕ → List Zone → ℕ → Bool
+zonesAscend below [] above = ltb below above
+zonesAscend below (z ∷ zs) above = ltb below (z .lower) && ltb (z .lower) (z .upper) && zonesAscend (z .upper) zs above
+
+abbrev pub unusedEdgesZero : Unit → Bool
+unusedEdgesZero u = all (λ e. eqb e 0) (drop (2 * u .zoneCount) (u .edges))
+
+unfoldable pub unitVerdict : Unit → Verdict
+unitVerdict u =
+    (ltb 4 (u .zoneCount) || not (unusedEdgesZero u)) refuses ZoneCountInvalid
+    then (ltb 1000000000 (u .c0) || ltb 10000000 (u .c1) || ltb 1000 (u .c2) || ltb 5000 (u .b)) refuses CoefficientOutOfRange
+    then not (leb 1 (u .least) && ltb (u .least) (u .greatest) && leb (u .greatest) 10000
+    && zonesAscend (u .least) (zones u) (u .greatest)) refuses LimitsInvalid
+    then (ltb 10000 (u .previous) || ltb 10000 (u .up) || ltb 10000 (u .down) || ltb 1 (u .mark)) refuses RampOrMarkOutOfRange
+
+unfoldable pub bodyVerdict : List ℕ → Verdict
+bodyVerdict s =
+    let u = unitOfBody s in
+    (ltb 4 (u .zoneCount) || not (eqb (length s) (bodyLength (u .zoneCount)))) refuses ZoneCountInvalid then unitVerdict u
+
+-- ---- "An accepted case file is one that passes every check before step 1."
+unfoldable pub fileVerdict : List ℕ → Verdict
+fileVerdict file =
+    headVerdict file then contentsVerdict file then inOrder (each (count file) (λ i. bodyVerdict (body file i)))

@@ -1,0 +1,72 @@
+// The answers of the public calls. What they mean is document 01 as definitions, in specs/.
+ghost use mathlib.Core.Path.{_≡_};
+ghost use Rattle.rules.specs.Refusal.{numberOf};
+
+// Why a call refuses. `number` gives document 01's number of each.
+pub enum Refusal {
+    BufferTooShort,
+    FileTooShort,
+    EditionUnknown,
+    CountOutOfRange,
+    DemandOutOfRange,
+    ContentsInvalid,
+    ZoneCountInvalid,
+    CoefficientOutOfRange,
+    LimitsInvalid,
+    RampOrMarkOutOfRange,
+    NoAllocation,
+    RowsInvalid,
+    FileBufferTooShort,
+    MultiplierOutOfRange,
+}
+
+pub fn number(r: Refusal) -> u32
+    ensures { λ n. ⌜ n ≡ numberOf r ⌝ }
+{
+    match r {
+        Refusal::BufferTooShort => 1,
+        Refusal::FileTooShort => 2,
+        Refusal::EditionUnknown => 3,
+        Refusal::CountOutOfRange => 4,
+        Refusal::DemandOutOfRange => 5,
+        Refusal::ContentsInvalid => 6,
+        Refusal::ZoneCountInvalid => 7,
+        Refusal::CoefficientOutOfRange => 8,
+        Refusal::LimitsInvalid => 9,
+        Refusal::RampOrMarkOutOfRange => 10,
+        Refusal::NoAllocation => 11,
+        Refusal::RowsInvalid => 12,
+        Refusal::FileBufferTooShort => 13,
+        Refusal::MultiplierOutOfRange => 14,
+    }
+}
+
+// What checking finds.
+pub enum Verdict {
+    Accepted,
+    Refused(Refusal),
+}
+
+// What dispatch answers: the length of the reply that it wrote.
+pub enum Dispatched {
+    Replied(usize),
+    Refused(Refusal),
+}
+
+// What pricing answers: the dual value, and whether the choices cover the demand.
+pub enum Priced {
+    Valued { dual: i64, covers: bool },
+    Refused(Refusal),
+}
+
+// What packing answers: the length of the case file that it wrote.
+pub enum Packed {
+    Written(usize),
+    Refused(Refusal),
+}
+
+// What unpacking answers: the demand, and the number of rows that it wrote.
+pub enum Unpacked {
+    Read { demand: u32, count: u32 },
+    Refused(Refusal),
+}
