@@ -1,0 +1,127 @@
+-- Lists and verdicts part by part: the element of `each` at an index, and what `all`, `then`, `refuses` and `inOrder` say of each part.
+use Prim.Native.Nat.{ℕ, zero, suc, _≤_, _<_}
+use native.Mathlib.Omega.{arith}
+use mathlib.Core.Path.{_≡_, refl, ap, ap₂}
+use mathlib.Core.Logic.{_↔_}
+use mathlib.Core.Bool.{Bool, true, false, not, _&&_, _||_, and-eq-true-iff, true≢false}
+use mathlib.Core.List.{List, [], _∷_, _++_}
+use lib.Dec.{ltb, leb, eqb}
+use lib.ListN.{length, getD}
+use borrow.Author.Tests.{ltb-true, ltb-false, leb-true, eqb-true, lt-ltb, le-ltb, le-leb, eq-eqb, not-false}
+use Rattle.rules.specs.Lists.{each, all}
+use Rattle.rules.specs.Refusal.{_refuses_, _then_, inOrder}
+use Rattle.rules.specs.declared.Refusal.{Refusal}
+use Rattle.rules.specs.declared.Verdict.{Verdict}
+use Rattle.rules.specs.declared.Verdict.the-variants.{Accepted, Refused}
+
+-- ---- each
+
+module _ {A : Type 0} where
+  pub length-each : (n : ℕ) (f : ℕ → A) → length (each n f) ≡ n
+  length-each zero f = refl
+  length-each (suc n) f = ap suc (length-each n (λ k. f (suc k)))
+
+  pub getD-each : (n : ℕ) (f : ℕ → A) (i : ℕ) (d : A) → i < n → getD (each n f) i d ≡ f i
+  getD-each zero f i d h = absurd (omega arith)
+  getD-each (suc n) f zero d h = refl
+  getD-each (suc n) f (suc i) d h = getD-each n (λ k. f (suc k)) i d (omega arith)
+
+  -- the last one behind the others
+  pub each-last : (n : ℕ) (f : ℕ → A) → each (suc n) f ≡ each n f ++ (f n ∷ [])
+  each-last zero f = refl
+  each-last (suc n) f = ap (λ (xs : List A). f 0 ∷ xs) (each-last n (λ k. f (suc k)))
+
+  -- the elements below n determine it
+  pub each-same : (n : ℕ) (f g : ℕ → A) → ((i : ℕ) → i < n → f i ≡ g i) → each n f ≡ each n g
+  each-same zero f g h = refl
+  each-same (suc n) f g h =
+      ap₂ (λ (x : A) (xs : List A). x ∷ xs) (h 0 (omega arith)) (each-same n (λ k. f (suc k)) (λ k. g (suc k)) (λ i k. h (suc i) (omega arith)))
+
+  pub each-getD : (xs : List A) (d : A) → each (length xs) (λ i. getD xs i d) ≡ xs
+  each-getD [] d = refl
+  each-getD (x ∷ xs) d = ap (λ (ys : List A). x ∷ ys) (each-getD xs d)
+
+  -- ---- every: a fact of each element of a list
+
+  abbrev pub Every : (A → Type 0) → List A → Type 0
+  Every P [] = Unit {0}
+  Every P (x ∷ xs) = P x × Every P xs
+
+  module _ (P : A → Type 0) where
+    pub every-at : (xs : List A) (i : ℕ) (d : A) → Every P xs → i < length xs → P (getD xs i d)
+    every-at [] i d p h = absurd (omega arith)
+    every-at (x ∷ xs) zero d p h = p .0
+    every-at (x ∷ xs) (suc i) d p h = every-at xs i d (p .1) (omega arith)
+
+    pub every-from : (xs : List A) (d : A) → ((i : ℕ) → i < length xs → P (getD xs i d)) → Every P xs
+    every-from [] d h = tt
+    every-from (x ∷ xs) d h = (h 0 (omega arith), every-from xs d (λ i k. h (suc i) (omega arith)))
+
+    pub every-each : (n : ℕ) (f : ℕ → A) → ((i : ℕ) → i < n → P (f i)) → Every P (each n f)
+    every-each zero f h = tt
+    every-each (suc n) f h = (h 0 (omega arith), every-each n (λ k. f (suc k)) (λ i k. h (suc i) (omega arith)))
+
+    pub each-every : (n : ℕ) (f : ℕ → A) → Every P (each n f) → (i : ℕ) → i < n → P (f i)
+    each-every zero f p i h = absurd (omega arith)
+    each-every (suc n) f p zero h = p .0
+    each-every (suc n) f p (suc i) h = each-every n (λ k. f (suc k)) (p .1) i (omega arith)
+
+    pub every-more : (Q : A → Type 0) → ((x : A) → P x → Q x) → (xs : List A) → Every P xs → Every Q xs
+    every-more Q h [] p = tt
+    every-more Q h (x ∷ xs) p = (h x (p .0), every-more Q h xs (p .1))
+
+  pub all-every : (test : A → Bool) (xs : List A) → (all test xs ≡ true) ↔ Every (λ x. test x ≡ true) xs
+  all-every test [] = (λ e. tt, λ p. refl)
+  all-every test (x ∷ xs) =
+      let both = and-eq-true-iff (test x) (all test xs) in
+      let rest = all-every test xs in
+      (λ e. (both .0 e .0, rest .0 (both .0 e .1)), λ p. both .1 (p .0, rest .1 (p .1)))
+
+-- ---- tests: what each says of its numbers or parts
+
+pub or-false : (a b : Bool) → ((a || b) ≡ false) ↔ ((a ≡ false) × (b ≡ false))
+or-false true b = (λ e. absurd (true≢false e), λ p. p .0)
+or-false false b = (λ e. (refl, e), λ p. p .1)
+
+pub and-true : (a b : Bool) → ((a && b) ≡ true) ↔ ((a ≡ true) × (b ≡ true))
+and-true = and-eq-true-iff
+
+pub not-is-false : (a : Bool) → (not a ≡ false) ↔ (a ≡ true)
+not-is-false a = (not-false a, λ e. ap not e)
+
+pub ltb-is-false : (a b : ℕ) → (ltb a b ≡ false) ↔ (b ≤ a)
+ltb-is-false a b = (ltb-false a b, le-ltb a b)
+
+pub ltb-is-true : (a b : ℕ) → (ltb a b ≡ true) ↔ (a < b)
+ltb-is-true a b = (ltb-true a b, lt-ltb a b)
+
+pub leb-is-true : (a b : ℕ) → (leb a b ≡ true) ↔ (a ≤ b)
+leb-is-true a b = (leb-true a b, le-leb a b)
+
+pub eqb-is-true : (a b : ℕ) → (eqb a b ≡ true) ↔ (a ≡ b)
+eqb-is-true a b = (eqb-true a b, eq-eqb a b)
+
+-- ---- verdicts
+
+pub refused-not-accepted : {r : Refusal} → Refused r ≡ Accepted → ⊥
+refused-not-accepted e = let z : _≡_ {A = ℕ} 0 1 = cc in omega arith
+
+-- a condition that does not hold, and nothing else, is accepted
+pub refuses-accepted : (c : Bool) (r : Refusal) → (c refuses r ≡ Accepted) ↔ (c ≡ false)
+refuses-accepted true r = (λ e. absurd (refused-not-accepted e), λ e. absurd (true≢false e))
+refuses-accepted false r = (λ e. refl, λ e. refl)
+
+pub then-accepted : (v w : Verdict) → ((v then w) ≡ Accepted) ↔ ((v ≡ Accepted) × (w ≡ Accepted))
+then-accepted Accepted w = (λ e. (refl, e), λ p. p .1)
+then-accepted (Refused r) w = (λ e. absurd (refused-not-accepted e), λ p. p .0)
+
+pub in-order-accepted : (vs : List Verdict) → (inOrder vs ≡ Accepted) ↔ Every (λ v. v ≡ Accepted) vs
+in-order-accepted [] = (λ e. tt, λ p. refl)
+in-order-accepted (v ∷ vs) =
+    let both = then-accepted v (inOrder vs) in
+    let rest = in-order-accepted vs in
+    (λ e. (both .0 e .0, rest .0 (both .0 e .1)), λ p. both .1 (p .0, rest .1 (p .1)))
+
+-- `simp accepts at e`, of an e that a verdict is Accepted, is the facts behind it as nested pairs; `simp accepts p` proves such an equation from them
+pub ruleset accepts =
+    (then-accepted, refuses-accepted, or-false, and-true, not-is-false, ltb-is-false, ltb-is-true, leb-is-true, eqb-is-true)
