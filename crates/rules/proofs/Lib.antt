@@ -1,7 +1,12 @@
+pub mod Cases
 pub mod Integers
+pub mod Rounding
 pub mod Lists
 pub mod Sound
 pub mod Chosen
 pub mod Outputs
 pub mod Quantities
 pub mod Totals
+pub mod Greatest
+pub mod Duality
+pub mod Search

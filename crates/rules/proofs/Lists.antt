@@ -1,12 +1,14 @@
 -- Lists and verdicts part by part: the element of `each` at an index, and what `all`, `then`, `refuses` and `inOrder` say of each part.
-use Prim.Native.Nat.{ℕ, zero, suc, _≤_, _<_}
+use Prim.Native.Nat.{ℕ, zero, suc, _+_, _≤_, _<_}
+use native.Mathlib.Nat.{add-zero}
 use native.Mathlib.Omega.{arith}
-use mathlib.Core.Path.{_≡_, refl, ap, ap₂}
+use mathlib.Core.Path.{_≡_, refl, ap, ap₂, _∙_}
 use mathlib.Core.Logic.{_↔_}
 use mathlib.Core.Bool.{Bool, true, false, not, _&&_, _||_, and-eq-true-iff, true≢false}
 use mathlib.Core.List.{List, [], _∷_, _++_}
 use lib.Dec.{ltb, leb, eqb}
-use lib.ListN.{length, getD}
+use lib.ListN.{length, getD, take}
+use lib.Seq.{take-all}
 use borrow.Author.Tests.{ltb-true, ltb-false, leb-true, eqb-true, lt-ltb, le-ltb, le-leb, eq-eqb, not-false}
 use Rattle.rules.specs.Lists.{each, all}
 use Rattle.rules.specs.Refusal.{_refuses_, _then_, inOrder}
@@ -37,9 +39,24 @@ module _ {A : Type 0} where
   each-same (suc n) f g h =
       ap₂ (λ (x : A) (xs : List A). x ∷ xs) (h 0 (omega arith)) (each-same n (λ k. f (suc k)) (λ k. g (suc k)) (λ i k. h (suc i) (omega arith)))
 
+  -- the first one of those from j on
+  pub each-from : (n j : ℕ) (f : ℕ → A) → each (suc n) (λ k. f (j + k)) ≡ f j ∷ each n (λ k. f (suc j + k))
+  each-from n j f =
+      rw add-zero (ap (λ (xs : List A). f j ∷ xs) (each-same n (λ k. f (j + suc k)) (λ k. f (suc j + k)) (λ k h. ap f (omega arith))))
+
+  pub take-each : (m n : ℕ) (f : ℕ → A) → m ≤ n → take m (each n f) ≡ each m f
+  take-each zero n f h = refl
+  take-each (suc m) zero f h = absurd (omega arith)
+  take-each (suc m) (suc n) f h = ap (λ (xs : List A). f 0 ∷ xs) (take-each m n (λ k. f (suc k)) (omega arith))
+
+  -- the elements of a list by their index
+  pub each-take : (n : ℕ) (xs : List A) (d : A) → n ≤ length xs → each n (λ i. getD xs i d) ≡ take n xs
+  each-take zero xs d h = refl
+  each-take (suc n) [] d h = absurd (omega arith)
+  each-take (suc n) (x ∷ xs) d h = ap (λ (ys : List A). x ∷ ys) (each-take n xs d (omega arith))
+
   pub each-getD : (xs : List A) (d : A) → each (length xs) (λ i. getD xs i d) ≡ xs
-  each-getD [] d = refl
-  each-getD (x ∷ xs) d = ap (λ (ys : List A). x ∷ ys) (each-getD xs d)
+  each-getD xs d = each-take (length xs) xs d (omega arith) ∙ take-all (length xs) xs (omega arith)
 
   -- ---- every: a fact of each element of a list
 

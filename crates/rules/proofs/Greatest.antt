@@ -1,0 +1,34 @@
+-- The greatest that a function has at some multipliers: it has it at one of them, and nothing greater at any of them.
+use mathlib.Core.Path.{_≡_, refl}
+use mathlib.Core.Bool.{cond}
+use mathlib.Core.List.{List, [], _∷_, List·Memᴰ, List·Memᴰ·head, List·Memᴰ·tail, List·Memᴰ·not-nil}
+use Prim.Native.Nat.{ℕ}
+use native.Mathlib.Omega.{arith}
+use lib.IntN.{ℤ}
+use lib.Signed.{leZ, _≤ℤ_, ≤ℤ-refl}
+use Rattle.rules.specs.Choice.{greatestAt}
+use Rattle.rules.proofs.Cases.{either-way, each-more}
+use Rattle.rules.proofs.Integers.{ints, itself, when-le, when-gt}
+
+-- z is the value of f at one of the numbers, and at least its value at each
+pub record Greatest (f : ℕ → ℤ) (ms : List ℕ) (z : ℤ) : Type 0 where
+  pub one : (m : ℕ) × List·Memᴰ m ms × (f m ≡ z)
+  pub each : (m : ℕ) → List·Memᴰ m ms → f m ≤ℤ z
+
+module _ (f : ℕ → ℤ) where
+  -- with one number more
+  greatest-more : (n : ℕ) {ms : List ℕ} {z : ℤ} → Greatest f ms z → Greatest f (n ∷ ms) (cond (leZ (f n) z) z (f n))
+  greatest-more n {ms} {z} p =
+      either-way (Greatest f (n ∷ ms)) (leZ (f n) z) (λ e. record { one = (p .one .0, List·Memᴰ·tail (p .one .1), p .one .2); each = each-more (λ m. f m ≤ℤ z) (omega (arith, ints, when-le (itself (f n)) (itself z) e)) (p .each) })
+      (λ e. record { one = (n, List·Memᴰ·head refl, refl); each = each-more (λ m. f m ≤ℤ f n) (≤ℤ-refl (f n)) (λ m h. omega (arith, ints, when-gt (itself (f n)) (itself z) e, p .each m h)) })
+
+  -- of a list by its first number
+  pub greatest-at : (n : ℕ) (ms : List ℕ) → Greatest f (n ∷ ms) (greatestAt f (n ∷ ms))
+  unfolding greatestAt
+  greatest-at n [] = record { one = (n, List·Memᴰ·head refl, refl); each = each-more (λ m. f m ≤ℤ f n) (≤ℤ-refl (f n)) (λ m h. absurd (List·Memᴰ·not-nil h)) }
+  greatest-at n (m ∷ ms) = greatest-more n (greatest-at m ms)
+
+  -- of a list that is not empty
+  pub greatest-of : {n : ℕ} {ms : List ℕ} → List·Memᴰ n ms → Greatest f ms (greatestAt f ms)
+  greatest-of {ms = []} h = absurd (List·Memᴰ·not-nil h)
+  greatest-of {ms = m ∷ ms} h = greatest-at m ms
