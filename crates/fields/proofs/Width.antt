@@ -8,7 +8,7 @@ use mathlib.Core.Path.{_≡_, refl, ap, sym, _∙_}
 use mathlib.Core.List.{List, [], _∷_, _++_, append-assoc}
 use lib.ListN.{length, take, drop, getD, set, length-append, length-take, length-drop, length-set, take-append-drop, List·getD-eq-default}
 use lib.Seq.{drop-cons, take-set-le, set-split, drop-at, take-at, length-take-le, take-suc, take-all, getD-take, getD-drop, drop-drop}
-use Rattle.fields.specs.Field.{numberAfter, number, field, bytes, written}
+use Rattle.fields.specs.Field.{Bytes, numberAfter, number, field, bytes, written}
 
 -- ---- numbers and bytes
 
@@ -29,10 +29,6 @@ number-bytes zero n h = omega arith
 number-bytes (suc w) n h =
     let k : n / 256 < 256 ^ w = div-lt-iff-lt-mul {k = 256} (omega arith) .1 (rw pow-suc at h) in
     number-snoc 0 (bytes w (n / 256)) (n % 256) ∙ ap (λ (q : ℕ). q * 256 + n % 256) (number-bytes w (n / 256) k) ∙ div-add-mod' n 256
-
--- every element of a list is a byte
-abbrev pub Bytes : List ℕ → Type 0
-Bytes s = (i : ℕ) → getD s i 0 < 256
 
 pub bytes-part : (s : List ℕ) (at w : ℕ) → Bytes s → Bytes (take w (drop at s))
 bytes-part s at w h i = by (decLt i w)

@@ -1,8 +1,12 @@
 -- Document 01: "All fields are unsigned, most significant byte first." A field is a big-endian number.
 -- Everything is over the width w in bytes: 2, 4 and 8 are the widths in use.
-use Prim.Native.Nat.{ℕ, zero, suc, _+_, _*_, _/_, _%_}
+use Prim.Native.Nat.{ℕ, zero, suc, _+_, _*_, _/_, _%_, _<_}
 use mathlib.Core.List.{List, [], _∷_, _++_}
-use lib.ListN.{take, drop}
+use lib.ListN.{getD, take, drop}
+
+-- every element of a list is a byte
+abbrev pub Bytes : List ℕ → Type 0
+Bytes s = (i : ℕ) → getD s i 0 < 256
 
 -- the number that bytes spell behind those that spelled n
 unfoldable pub numberAfter : ℕ → List ℕ → ℕ

@@ -1,8 +1,14 @@
 pub mod Cases
+pub mod Lists
 pub mod Integers
 pub mod Rounding
-pub mod Lists
+pub mod Pieces
 pub mod Sound
+pub mod Rows
+pub mod Body
+pub mod SoundFile
+pub mod RoundTrip
+pub mod Undo
 pub mod Chosen
 pub mod Outputs
 pub mod Quantities
@@ -10,3 +16,9 @@ pub mod Totals
 pub mod Greatest
 pub mod Duality
 pub mod Search
+pub mod Allocations
+pub mod Solvable
+pub mod Obeyed
+pub mod Solution
+pub mod ReplyBytes
+pub mod Demand3

@@ -3,13 +3,13 @@ use Prim.Native.Nat.{ℕ, zero, suc, _+_, _≤_, _<_}
 use native.Mathlib.Nat.{add-zero}
 use native.Mathlib.Omega.{arith}
 use mathlib.Core.Path.{_≡_, refl, ap, ap₂, _∙_}
-use mathlib.Core.Logic.{_↔_}
+use mathlib.Core.Logic.{_↔_, _≢_}
 use mathlib.Core.Bool.{Bool, true, false, not, _&&_, _||_, and-eq-true-iff, true≢false}
-use mathlib.Core.List.{List, [], _∷_, _++_}
+use mathlib.Core.List.{List, [], _∷_, _++_, map}
 use lib.Dec.{ltb, leb, eqb}
 use lib.ListN.{length, getD, take}
 use lib.Seq.{take-all}
-use borrow.Author.Tests.{ltb-true, ltb-false, leb-true, eqb-true, lt-ltb, le-ltb, le-leb, eq-eqb, not-false}
+use borrow.Author.Tests.{ltb-true, ltb-false, leb-true, eqb-true, eqb-false, lt-ltb, le-ltb, le-leb, eq-eqb, ne-eqb, not-false}
 use Rattle.rules.specs.Lists.{each, all}
 use Rattle.rules.specs.Refusal.{_refuses_, _then_, inOrder}
 use Rattle.rules.specs.declared.Refusal.{Refusal}
@@ -87,12 +87,27 @@ module _ {A : Type 0} where
     every-more Q h [] p = tt
     every-more Q h (x ∷ xs) p = (h x (p .0), every-more Q h xs (p .1))
 
+  pub every-both : (P Q R : A → Type 0) → ((x : A) → P x → Q x → R x) → (xs : List A) → Every P xs → Every Q xs → Every R xs
+  every-both P Q R h [] p q = tt
+  every-both P Q R h (x ∷ xs) p q = (h x (p .0) (q .0), every-both P Q R h xs (p .1) (q .1))
+
   pub all-every : (test : A → Bool) (xs : List A) → (all test xs ≡ true) ↔ Every (λ x. test x ≡ true) xs
   all-every test [] = (λ e. tt, λ p. refl)
   all-every test (x ∷ xs) =
       let both = and-eq-true-iff (test x) (all test xs) in
       let rest = all-every test xs in
       (λ e. (both .0 e .0, rest .0 (both .0 e .1)), λ p. both .1 (p .0, rest .1 (p .1)))
+
+  pub all-each : (test : A → Bool) (n : ℕ) (f : ℕ → A) → (all test (each n f) ≡ true) ↔ ((i : ℕ) → i < n → test (f i) ≡ true)
+  all-each test n f =
+      let both = all-every test (each n f) in
+      (λ e. each-every (λ x. test x ≡ true) n f (both .0 e), λ h. both .1 (every-each (λ x. test x ≡ true) n f h))
+
+pub every-map : {A B : Type 0} (P : B → Type 0) (f : A → B) (xs : List A) → Every P (map f xs) ↔ Every (λ x. P (f x)) xs
+every-map P f [] = (λ p. tt, λ p. tt)
+every-map P f (x ∷ xs) =
+    let rest = every-map P f xs in
+    (λ p. (p .0, rest .0 (p .1)), λ p. (p .0, rest .1 (p .1)))
 
 -- ---- tests: what each says of its numbers or parts
 
@@ -114,6 +129,9 @@ ltb-is-true a b = (ltb-true a b, lt-ltb a b)
 
 pub leb-is-true : (a b : ℕ) → (leb a b ≡ true) ↔ (a ≤ b)
 leb-is-true a b = (leb-true a b, le-leb a b)
+
+pub eqb-is-false : (a b : ℕ) → (eqb a b ≡ false) ↔ (a ≢ b)
+eqb-is-false a b = (eqb-false a b, ne-eqb a b)
 
 pub eqb-is-true : (a b : ℕ) → (eqb a b ≡ true) ↔ (a ≡ b)
 eqb-is-true a b = (eqb-true a b, eq-eqb a b)
@@ -139,6 +157,11 @@ in-order-accepted (v ∷ vs) =
     let rest = in-order-accepted vs in
     (λ e. (both .0 e .0, rest .0 (both .0 e .1)), λ p. both .1 (p .0, rest .1 (p .1)))
 
+pub in-order-each : (n : ℕ) (f : ℕ → Verdict) → (inOrder (each n f) ≡ Accepted) ↔ ((i : ℕ) → i < n → f i ≡ Accepted)
+in-order-each n f =
+    let both = in-order-accepted (each n f) in
+    (λ e. each-every (λ v. v ≡ Accepted) n f (both .0 e), λ h. both .1 (every-each (λ v. v ≡ Accepted) n f h))
+
 -- `simp accepts at e`, of an e that a verdict is Accepted, is the facts behind it as nested pairs; `simp accepts p` proves such an equation from them
 pub ruleset accepts =
-    (then-accepted, refuses-accepted, or-false, and-true, not-is-false, ltb-is-false, ltb-is-true, leb-is-true, eqb-is-true)
+    (then-accepted, refuses-accepted, or-false, and-true, not-is-false, ltb-is-false, ltb-is-true, leb-is-true, eqb-is-false, eqb-is-true)

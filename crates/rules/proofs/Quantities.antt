@@ -1,9 +1,8 @@
 -- The range of every quantity of a sound unit at an output up to its greatest, and that net grows with the output. This file alone looks at what cost and net are made of.
-use mathlib.Core.Path.{_≡_, refl, sym, ap, _∙_}
-use Prim.Native.Nat.{ℕ, zero, suc, _+_, _*_, _-_, _≤_, _<_}
-use native.Mathlib.Nat.{add-zero, le-refl, mul-le-mul, mul-le-mul-left, mul-le-mul-right}
+use mathlib.Core.Path.{_≡_}
+use Prim.Native.Nat.{ℕ, zero, suc, _+_, _*_, _-_, _≤_}
+use native.Mathlib.Nat.{add-zero, le-refl, mul-le-mul, mul-le-mul-right}
 use native.Mathlib.Omega.{arith}
-use lib.IntN.{ℤ, pos}
 use Rattle.rules.specs.Layout.{Unit}
 use Rattle.rules.specs.Unit.{cost, net}
 use Rattle.rules.specs.Choice.{pricedCost}

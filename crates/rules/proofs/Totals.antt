@@ -1,13 +1,11 @@
 -- Sums over the units: the ranges of an allocation's cost and net, and the dual value as a difference of the two.
-use mathlib.Core.Path.{_≡_, refl, ap, sym, _∙_}
+use mathlib.Core.Path.{_≡_, refl, ap}
 use mathlib.Core.List.{List, [], _∷_, map}
-use Prim.Native.Nat.{ℕ, _+_, _*_, _≤_, _<_}
-use native.Mathlib.Nat.{mul-le-mul}
+use Prim.Native.Nat.{ℕ, _+_, _*_, _≤_}
 use native.Mathlib.Omega.{arith}
-use lib.IntN.{ℤ, pos, _+ℤ_}
 use lib.ListN.{length}
 use Rattle.rules.specs.Layout.{Unit, Case}
-use Rattle.rules.specs.Unit.{cost, net, totalCost, totalNet, Offer, Problem, unitsOf, offer, problemOf}
+use Rattle.rules.specs.Unit.{totalCost, totalNet, Offer, Problem, unitsOf, offer, problemOf}
 use Rattle.rules.specs.Choice.{choice, leastPricedCost, total, choices, dualValue}
 use Rattle.rules.proofs.Integers.{Is, is-pos, is-add}
 use Rattle.rules.proofs.Lists.{Every}

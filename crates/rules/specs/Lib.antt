@@ -5,5 +5,6 @@ pub mod Unit
 pub mod Choice
 pub mod Bisection
 pub mod Calls
+pub mod Undoing
 pub mod Promise
 pub mod Table

@@ -1,0 +1,141 @@
+-- A unit and its body: each is read back from the other, and the body of a sound unit is accepted.
+use Prim.Native.Nat.{ℕ, _+_, _*_, _^_, _<_}
+use native.Mathlib.Decide.{decLt}
+use native.Mathlib.Omega.{arith}
+use mathlib.Core.Path.{_≡_, refl, sym, ap, _∙_}
+use mathlib.Core.List.{List, [], _∷_, _++_, append-assoc, append-nil}
+use lib.ListN.{length, getD, take, drop, drop-of-length-le}
+use lib.Seq.{take-all, length-take-le, getD-take}
+use borrow.Author.Tests.{lt-ltb, le-ltb}
+use Rattle.fields.specs.Field.{Bytes, field, bytesOfEach}
+use Rattle.rules.specs.Lists.{each}
+use Rattle.rules.specs.Layout.{Unit, edgeOfBody, unitOfBody, bodyLength, bodyOfUnit}
+use Rattle.rules.specs.Refusal.{bodyVerdict}
+use Rattle.rules.specs.declared.Verdict.the-variants.{Accepted}
+use Rattle.rules.proofs.Lists.{Every, every-from, each-same, each-take, take-each, accepts}
+use Rattle.rules.proofs.Sound.{Sound, sound, sound-accepted, edge-small}
+use Rattle.rules.proofs.Pieces.{Piece, Fits, spell, place, piece, read-piece, read-behind, length-spell, spell-pieces, read-each, length-each-bytes, each-again}
+use Rattle.rules.proofs.Rows.{EightEdges}
+
+-- a unit that a file can hold
+pub record Packable (u : Unit) : Type 0 where
+  pub sound : Sound u
+  pub eight : EightEdges u
+
+-- ---- a body is eleven pieces, then the edges in use
+
+abbrev headPieces : Unit → List Piece
+headPieces u =
+    record { width = 4; value = u .c0 }
+    ∷ record { width = 4; value = u .c1 }
+    ∷ record { width = 2; value = u .c2 }
+    ∷ record { width = 2; value = u .b }
+    ∷ record { width = 2; value = u .least }
+    ∷ record { width = 2; value = u .greatest }
+    ∷ record { width = 2; value = u .previous }
+    ∷ record { width = 2; value = u .up }
+    ∷ record { width = 2; value = u .down }
+    ∷ record { width = 2; value = u .mark }
+    ∷ record { width = 2; value = u .zoneCount }
+    ∷ []
+
+abbrev edgesInUse : Unit → List ℕ
+edgesInUse u = take (2 * u .zoneCount) (u .edges)
+
+body-spelled : (u : Unit) → bodyOfUnit u ≡ spell (headPieces u) (bytesOfEach 2 (edgesInUse u))
+unfolding bodyOfUnit
+body-spelled u = simp append-assoc
+
+head-fits : (u : Unit) → Sound u → Every Fits (headPieces u)
+head-fits u s = omega arith
+
+module _ (u : Unit) (p : Packable u) where
+  length-used : length (edgesInUse u) ≡ 2 * u .zoneCount
+  length-used = length-take-le (2 * u .zoneCount) (u .edges) (omega (arith, p .sound .zoneCount, p .eight))
+
+  pub length-body : length (bodyOfUnit u) ≡ bodyLength (u .zoneCount)
+  length-body =
+      rw (body-spelled u, length-spell (headPieces u) (bytesOfEach 2 (edgesInUse u)), length-each-bytes 2 (edgesInUse u), length-used) (omega arith)
+
+  -- the field at the place of piece k
+  head-read : (k : ℕ) → k < 11 → field (bodyOfUnit u) (place (headPieces u) k) (piece (headPieces u) k .width) ≡ piece (headPieces u) k .value
+  head-read k h = rw (body-spelled u) (read-piece (headPieces u) (bytesOfEach 2 (edgesInUse u)) k h (head-fits u (p .sound)))
+
+  used-fit : Every (λ n. n < 256 ^ 2) (edgesInUse u)
+  used-fit = every-from (λ n. n < 256 ^ 2) (edgesInUse u) 0 (λ i h. rw (getD-take (2 * u .zoneCount) (u .edges) i 0 (omega (arith, length-used))) (omega (arith, edge-small (p .sound) i)))
+
+  edge-read : (k : ℕ) → k < 2 * u .zoneCount → field (bodyOfUnit u) (26 + 2 * k) 2 ≡ getD (u .edges) k 0
+  edge-read k h =
+      rw (body-spelled u)
+      (read-behind (headPieces u) (bytesOfEach 2 (edgesInUse u)) (2 * k) 2
+      ∙ ap (λ (s : List ℕ). field s (2 * k) 2) (sym (append-nil (bytesOfEach 2 (edgesInUse u))))
+      ∙ read-each 2 (edgesInUse u) [] k (omega (arith, length-used)) used-fit
+      ∙ getD-take (2 * u .zoneCount) (u .edges) k 0 h)
+
+  edge-again : (k : ℕ) → edgeOfBody (bodyOfUnit u) (field (bodyOfUnit u) 24 2) k ≡ getD (u .edges) k 0
+  unfolding edgeOfBody
+  edge-again k = rw (head-read 10 (omega arith)) (by (decLt k (2 * u .zoneCount)))
+    where
+      by : Dec (k < 2 * u .zoneCount) → edgeOfBody (bodyOfUnit u) (u .zoneCount) k ≡ getD (u .edges) k 0
+      by (yes h) = rw (lt-ltb k (2 * u .zoneCount) h) (edge-read k h)
+      by (no h) = rw (le-ltb k (2 * u .zoneCount) (omega arith)) (sym (p .sound .unused k (omega arith)))
+
+  edges-again : each 8 (edgeOfBody (bodyOfUnit u) (field (bodyOfUnit u) 24 2)) ≡ u .edges
+  edges-again =
+      each-same 8 (edgeOfBody (bodyOfUnit u) (field (bodyOfUnit u) 24 2)) (λ k. getD (u .edges) k 0) (λ k h. edge-again k)
+      ∙ each-take 8 (u .edges) 0 (omega (arith, p .eight)) ∙ take-all 8 (u .edges) (omega (arith, p .eight))
+
+  pub unit-body-unit : unitOfBody (bodyOfUnit u) ≡ u
+  unfolding unitOfBody
+  unit-body-unit =
+      λ i.
+      record {
+        c0 = head-read 0 (omega arith) i;
+        c1 = head-read 1 (omega arith) i;
+        c2 = head-read 2 (omega arith) i;
+        b = head-read 3 (omega arith) i;
+        least = head-read 4 (omega arith) i;
+        greatest = head-read 5 (omega arith) i;
+        previous = head-read 6 (omega arith) i;
+        up = head-read 7 (omega arith) i;
+        down = head-read 8 (omega arith) i;
+        mark = head-read 9 (omega arith) i;
+        zoneCount = head-read 10 (omega arith) i;
+        edges = edges-again i;
+      }
+
+  pub body-accepted : bodyVerdict (bodyOfUnit u) ≡ Accepted
+  unfolding bodyVerdict
+  body-accepted =
+      simp accepts ((rw unit-body-unit (p .sound .zoneCount), rw unit-body-unit length-body), rw unit-body-unit (sound-accepted u (p .sound)))
+
+-- ---- back
+
+module _ (s : List ℕ) (e : bodyVerdict s ≡ Accepted) where
+  pub body-packable : Packable (unitOfBody s)
+  unfolding bodyVerdict unitOfBody
+  body-packable = let (size, unit) = simp accepts at e in record { sound = sound (unitOfBody s) unit; eight = refl }
+
+  pub body-length : length s ≡ bodyLength (unitOfBody s .zoneCount)
+  unfolding bodyVerdict
+  body-length = let (size, unit) = simp accepts at e in size .1
+
+  used-again : edgesInUse (unitOfBody s) ≡ each (2 * unitOfBody s .zoneCount) (λ k. field s (26 + 2 * k) 2)
+  unfolding unitOfBody edgeOfBody
+  used-again =
+      let z = unitOfBody s .zoneCount in
+      take-each (2 * z) 8 (edgeOfBody s z) (omega (arith, body-packable .sound .zoneCount))
+      ∙ each-same (2 * z) (edgeOfBody s z) (λ k. field s (26 + 2 * k) 2) (λ k h. rw (lt-ltb k (2 * z) h))
+
+  pub body-unit-body : Bytes s → bodyOfUnit (unitOfBody s) ≡ s
+  unfolding unitOfBody
+  body-unit-body b =
+      let z = unitOfBody s .zoneCount in
+      let numbers = each (2 * z) (λ k. field s (26 + 2 * k) 2) in
+      let ends : drop (26 + 2 * (2 * z)) s ≡ [] = drop-of-length-le s {i = 26 + 2 * (2 * z)} (omega (arith, body-length)) in
+      let tail : bytesOfEach 2 numbers ≡ drop 26 s =
+      sym (append-nil (bytesOfEach 2 numbers)) ∙ ap (λ (t : List ℕ). bytesOfEach 2 numbers ++ t) (sym ends)
+      ∙ each-again 2 s 26 (2 * z) (omega (arith, body-length)) b in
+      body-spelled (unitOfBody s) ∙ ap (λ (ns : List ℕ). spell (headPieces (unitOfBody s)) (bytesOfEach 2 ns)) used-again
+      ∙ ap (spell (headPieces (unitOfBody s))) tail
+      ∙ spell-pieces s 0 (4 ∷ 4 ∷ 2 ∷ 2 ∷ 2 ∷ 2 ∷ 2 ∷ 2 ∷ 2 ∷ 2 ∷ 2 ∷ []) (omega (arith, body-length)) b

@@ -1,0 +1,92 @@
+-- A row and its unit: each is read back from the other, and so are lists of them.
+use Prim.Native.Nat.{ℕ, zero, suc, _+_, _*_, _/_, _≤_, _<_}
+use native.Mathlib.Omega.{arith}
+use mathlib.Core.Path.{_≡_, refl, ap, ap₂, _∙_}
+use mathlib.Core.List.{List, [], _∷_, _++_}
+use lib.ListN.{length, getD, take, drop, length-append, length-drop, take-append-drop}
+use lib.Seq.{take-all, take-at, drop-at, drop-drop, length-take-le, take-add}
+use Rattle.rules.specs.Lists.{each}
+use Rattle.rules.specs.Layout.{Unit, unitOfRow, rowOfUnit, unitsOfRows, rowsOfUnits}
+use Rattle.rules.proofs.Lists.{Every, each-same, each-take, every-each}
+
+abbrev pub EightEdges : Unit → Type 0
+EightEdges u = length (u .edges) ≡ 8
+
+-- ---- one row
+
+pub row-unit-row : (row : List ℕ) → length row ≡ 19 → rowOfUnit (unitOfRow row) ≡ row
+unfolding unitOfRow rowOfUnit
+row-unit-row row e =
+    let front : each 11 (λ i. getD row i 0) ≡ take 11 row = each-take 11 row 0 (omega arith) in
+    let back : take 8 (drop 11 row) ≡ drop 11 row = take-all 8 (drop 11 row) (simp length-drop (omega arith)) in
+    ap₂ (λ (s t : List ℕ). s ++ t) front back ∙ take-append-drop 11 row
+
+pub unit-row-unit : (u : Unit) → EightEdges u → unitOfRow (rowOfUnit u) ≡ u
+unfolding unitOfRow rowOfUnit
+unit-row-unit u e = rw (take-all 8 (u .edges) (omega arith))
+
+length-row : (u : Unit) → EightEdges u → length (rowOfUnit u) ≡ 19
+unfolding rowOfUnit
+length-row u e = omega arith
+
+pub row-eight : (row : List ℕ) → length row ≡ 19 → EightEdges (unitOfRow row)
+unfolding unitOfRow
+row-eight row e = length-take-le 8 (drop 11 row) (simp length-drop (omega arith))
+
+-- ---- rows one behind the other
+
+-- row i of a list
+abbrev pub rowAt : List ℕ → ℕ → List ℕ
+rowAt rows i = take 19 (drop (19 * i) rows)
+
+length-rowAt : (rows : List ℕ) (n i : ℕ) → 19 * n ≤ length rows → i < n → length (rowAt rows i) ≡ 19
+length-rowAt rows n i h k = length-take-le 19 (drop (19 * i) rows) (simp length-drop (omega arith))
+
+-- the rows behind the first
+rows-later : (rows : List ℕ) (i : ℕ) → rowAt rows (suc i) ≡ rowAt (drop 19 rows) i
+rows-later rows i = let e : 19 * suc i ≡ 19 + 19 * i = omega arith in rw (e, drop-drop)
+
+rows-front : (rows : List ℕ) (n : ℕ) → 19 * n ≤ length rows → rowsOfUnits (each n (λ i. unitOfRow (rowAt rows i))) ≡ take (19 * n) rows
+unfolding rowsOfUnits
+rows-front rows zero h = refl
+rows-front rows (suc n) h =
+    let later : each n (λ i. unitOfRow (rowAt rows (suc i))) ≡ each n (λ i. unitOfRow (rowAt (drop 19 rows) i)) =
+    each-same n (λ i. unitOfRow (rowAt rows (suc i))) (λ i. unitOfRow (rowAt (drop 19 rows) i)) (λ i k. ap unitOfRow (rows-later rows i)) in
+    let e : 19 * suc n ≡ 19 + 19 * n = omega arith in
+    rw (later, e, take-add 19 (19 * n) rows, row-unit-row (take 19 rows) (length-rowAt rows (suc n) 0 h (omega arith)), rows-front (drop 19 rows) n (simp length-drop (omega arith)))
+
+pub rows-units-rows : (rows : List ℕ) (n : ℕ) → length rows ≡ 19 * n → rowsOfUnits (unitsOfRows rows) ≡ rows
+unfolding unitsOfRows
+rows-units-rows rows n e =
+    let m : length rows / 19 ≡ n = omega arith in
+    rw m (rows-front rows n (omega arith) ∙ take-all (19 * n) rows (omega arith))
+
+pub length-rows : (us : List Unit) → Every EightEdges us → length (rowsOfUnits us) ≡ 19 * length us
+unfolding rowsOfUnits
+length-rows [] p = refl
+length-rows (u ∷ us) p = simp (length-append, length-row u (p .0), length-rows us (p .1)) (omega arith)
+
+rows-read : (us : List Unit) → Every EightEdges us → each (length us) (λ i. unitOfRow (rowAt (rowsOfUnits us) i)) ≡ us
+unfolding rowsOfUnits
+rows-read [] p = refl
+rows-read (u ∷ us) p =
+    let rest = rowsOfUnits us in
+    let long : length (rowOfUnit u) ≡ 19 = length-row u (p .0) in
+    let first : unitOfRow (take 19 (rowOfUnit u ++ rest)) ≡ u = rw (take-at (rowOfUnit u) rest 19 long) (unit-row-unit u (p .0)) in
+    let behind : drop 19 (rowOfUnit u ++ rest) ≡ rest = drop-at (rowOfUnit u) rest 19 long in
+    let later : each (length us) (λ i. unitOfRow (rowAt (rowOfUnit u ++ rest) (suc i))) ≡ each (length us) (λ i. unitOfRow (rowAt rest i)) =
+    each-same (length us) (λ i. unitOfRow (rowAt (rowOfUnit u ++ rest) (suc i))) (λ i. unitOfRow (rowAt rest i))
+    (λ i k. ap unitOfRow (rows-later (rowOfUnit u ++ rest) i ∙ ap (λ (s : List ℕ). rowAt s i) behind)) in
+    ap₂ (λ (v : Unit) (vs : List Unit). v ∷ vs) first (later ∙ rows-read us (p .1))
+
+pub units-rows-units : (us : List Unit) → Every EightEdges us → unitsOfRows (rowsOfUnits us) ≡ us
+unfolding unitsOfRows
+units-rows-units us p =
+    let n : length (rowsOfUnits us) / 19 ≡ length us = omega (arith, length-rows us p) in
+    rw n (rows-read us p)
+
+-- every unit that is read from rows has eight edges
+pub rows-eight : (rows : List ℕ) → Every EightEdges (unitsOfRows rows)
+unfolding unitsOfRows
+rows-eight rows =
+    every-each EightEdges (length rows / 19) (λ i. unitOfRow (rowAt rows i)) (λ i h. row-eight (rowAt rows i) (length-rowAt rows (length rows / 19) i (omega arith) h))
