@@ -16,6 +16,7 @@ pub mod Totals
 pub mod Greatest
 pub mod Duality
 pub mod Search
+pub mod Steps
 pub mod Allocations
 pub mod Solvable
 pub mod Obeyed
