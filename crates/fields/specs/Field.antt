@@ -1,4 +1,4 @@
--- Document 01: "All fields are unsigned, most significant byte first." A field is a big-endian number.
+-- Document 01: "All fields are unsigned, most significant byte first, …": a field is a big-endian number.
 -- Everything is over the width w in bytes: 2, 4 and 8 are the widths in use.
 use Prim.Native.Nat.{ℕ, zero, suc, _+_, _*_, _/_, _%_, _<_}
 use mathlib.Core.List.{List, [], _∷_, _++_}
@@ -17,7 +17,7 @@ numberAfter n (byte ∷ rest) = numberAfter (n * 256 + byte) rest
 abbrev pub number : List ℕ → ℕ
 number s = numberAfter 0 s
 
--- the w bytes of a number, the last byte the least significant
+-- the w bytes of a number, the last byte the least significant (of a number that does not fit, the low w bytes)
 unfoldable pub bytes : ℕ → ℕ → List ℕ
 bytes zero n = []
 bytes (suc w) n = bytes w (n / 256) ++ (n % 256 ∷ [])

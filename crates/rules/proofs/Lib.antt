@@ -23,3 +23,4 @@ pub mod Obeyed
 pub mod Solution
 pub mod ReplyBytes
 pub mod Demand3
+pub mod Lengths

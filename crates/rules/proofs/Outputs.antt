@@ -7,7 +7,7 @@ use Prim.Native.Nat.{ℕ, zero, suc, _≤_, _<_}
 use native.Mathlib.Omega.{arith}
 use lib.Dec.{leb, eqb}
 use borrow.Author.Tests.{leb-true, le-leb, ne-eqb}
-use Rattle.rules.specs.Lists.{each, those, all, greatest}
+use Rattle.rules.specs.Lists.{each, filter, all, greatest}
 use Rattle.rules.specs.Layout.{Unit, zones}
 use Rattle.rules.specs.Unit.{permitted, runningOutput, strictlyInside, inRampWindow, offer}
 use Rattle.rules.specs.Choice.{pricedCost, choiceOf, choice}
@@ -17,21 +17,21 @@ use Rattle.rules.proofs.Chosen.{Chosen, Among, Ascends, AscendsAbove, a
 -- ---- the elements of a list of which a test holds
 
 module _ (test : ℕ → Bool) where
-  kept : (p : ℕ) (xs : List ℕ) → test p ≡ true → Among p xs → Among p (those test xs)
+  kept : (p : ℕ) (xs : List ℕ) → test p ≡ true → Among p xs → Among p (filter test xs)
   kept p [] t i = absurd i
   kept p (x ∷ xs) t i = by (test x) refl i (kept p xs t)
     where
-      by : (b : Bool) → test x ≡ b → (p ≡ x) ⊎ Among p xs → (Among p xs → Among p (those test xs)) → Among p (cond b (x ∷ those test xs) (those test xs))
+      by : (b : Bool) → test x ≡ b → (p ≡ x) ⊎ Among p xs → (Among p xs → Among p (filter test xs)) → Among p (cond b (x ∷ filter test xs) (filter test xs))
       by true e (inl q) r = inl q
       by true e (inr j) r = inr (r j)
       by false e (inl q) r = absurd (true≢false (sym t ∙ ap test q ∙ e))
       by false e (inr j) r = r j
 
-  holds : (p : ℕ) (xs : List ℕ) → Among p (those test xs) → (test p ≡ true) × Among p xs
+  holds : (p : ℕ) (xs : List ℕ) → Among p (filter test xs) → (test p ≡ true) × Among p xs
   holds p [] i = absurd i
   holds p (x ∷ xs) i = by (test x) refl i (holds p xs)
     where
-      by : (b : Bool) → test x ≡ b → Among p (cond b (x ∷ those test xs) (those test xs)) → (Among p (those test xs) → (test p ≡ true) × Among p xs) → (test p ≡ true) × Among p (x ∷ xs)
+      by : (b : Bool) → test x ≡ b → Among p (cond b (x ∷ filter test xs) (filter test xs)) → (Among p (filter test xs) → (test p ≡ true) × Among p xs) → (test p ≡ true) × Among p (x ∷ xs)
       by true e (inl q) r = (ap test q ∙ e, inl q)
       by true e (inr j) r = (r j .0, inr (r j .1))
       by false e j r = (r j .0, inr (r j .1))
@@ -40,15 +40,15 @@ module _ (test : ℕ → Bool) where
   lower b c [] h a = record {}
   lower b c (x ∷ xs) h a = (omega (arith, a .0), a .1)
 
-  above : (b : ℕ) (xs : List ℕ) → AscendsAbove b xs → AscendsAbove b (those test xs)
+  above : (b : ℕ) (xs : List ℕ) → AscendsAbove b xs → AscendsAbove b (filter test xs)
   above b [] a = record {}
   above b (x ∷ xs) a = by (test x) (above x xs (a .1))
     where
-      by : (t : Bool) → AscendsAbove x (those test xs) → AscendsAbove b (cond t (x ∷ those test xs) (those test xs))
+      by : (t : Bool) → AscendsAbove x (filter test xs) → AscendsAbove b (cond t (x ∷ filter test xs) (filter test xs))
       by true r = (a .0, r)
-      by false r = lower b x (those test xs) (a .0) r
+      by false r = lower b x (filter test xs) (a .0) r
 
-  ascends : (xs : List ℕ) → Ascends xs → Ascends (those test xs)
+  ascends : (xs : List ℕ) → Ascends xs → Ascends (filter test xs)
   ascends [] a = record {}
   ascends (x ∷ xs) a = by (test x) (above x xs a)
     where
@@ -56,9 +56,9 @@ module _ (test : ℕ → Bool) where
       weaker [] r = record {}
       weaker (y ∷ ys) r = r .1
 
-      by : (t : Bool) → AscendsAbove x (those test xs) → Ascends (cond t (x ∷ those test xs) (those test xs))
+      by : (t : Bool) → AscendsAbove x (filter test xs) → Ascends (cond t (x ∷ filter test xs) (filter test xs))
       by true r = r
-      by false r = weaker (those test xs) r
+      by false r = weaker (filter test xs) r
 
 -- ---- the numbers from 0 on, as f 0, f 1, ..
 

@@ -71,7 +71,7 @@ module _ (d : ℕ) (rows buffer : List ℕ) where
 
 -- ---- what an answer tells
 
-pack-wrote : (v : Verdict) (d : ℕ) (rows buffer : List ℕ) (n : ℕ) → packEnds v d rows buffer .answer ≡ Packed.Written n → (v ≡ Accepted) × (length (fileOf d (unitsOfRows rows)) ≡ n)
+pub pack-wrote : (v : Verdict) (d : ℕ) (rows buffer : List ℕ) (n : ℕ) → packEnds v d rows buffer .answer ≡ Packed.Written n → (v ≡ Accepted) × (length (fileOf d (unitsOfRows rows)) ≡ n)
 unfolding packEnds
 pack-wrote Accepted d rows buffer n e = (refl, cc)
 pack-wrote (Refused r) d rows buffer n e = absurd (let z : _≡_ {A = ℕ} 0 1 = cc in omega arith)

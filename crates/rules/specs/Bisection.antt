@@ -1,15 +1,15 @@
 -- Document 01, "Choice, floor, bisection", steps 1 to 4: dual bisection. Steps 2 to 4 ask of an allocation only its net, so they are stated over any type of allocations.
 use Prim.Native.Nat.{ℕ, zero, suc, _+_, _*_, _-_, _/_, _^_}
-use mathlib.Core.Bool.{Bool, cond, not, _&&_}
+use mathlib.Core.Bool.{Bool, cond, _&&_}
 use mathlib.Core.List.{List, [], _∷_, map}
 use lib.Dec.{leb, eqb, ltb}
 use lib.IntN.{ℤ, pos, negsuc, _-ℤ_}
 use lib.ListN.{length}
 use Rattle.rules.specs.Lists.{all, greatest}
-use Rattle.rules.specs.Unit.{totalCost, totalNet, covers, Offer, Problem, unitsOf}
+use Rattle.rules.specs.Unit.{totalCost, totalNet, covers, Problem, unitsOf}
 use Rattle.rules.specs.Choice.{choices, greatestFloor}
 
--- what the search found: its best allocation, and the multipliers that it evaluated, the last one first
+-- what the search found: its best allocation, and the multipliers that it evaluated, the last one first. (An evaluation is one of the dual function.)
 pub record Found (X : Type 0) : Type 0 where
   pub best : X
   pub evaluated : List ℕ
@@ -39,7 +39,7 @@ module _ {X : Type 0} (choose : ℕ → X) (net : X → ℕ) (target : ℕ) wher
       let uncovered : Found X = record { best = first; evaluated = seen } in
       cond (leb target (net x)) (cond (eqb (net x) target) ended halved) uncovered
 
-  -- "2. Evaluate 0. If its choices cover d, they are the answer; stop."
+  -- the whole search, from step 2 on: "2. Evaluate 0. If its choices cover d, they are the answer; stop."
   unfoldable pub search : X → Found X
   search first =
       let x = choose 0 in
@@ -61,13 +61,13 @@ solvable q =
 unfoldable pub found : Problem → Found (List ℕ)
 found q = search (λ m. choices m q) (totalNet (unitsOf q)) (100000000 * q .demand) (greatestOutputs q)
 
--- an integer that is not negative, as a natural number
+-- an integer that is not negative, as a natural number (of a negative one, 0)
 unfoldable pub natural : ℤ → ℕ
 natural (pos n) = n
 natural (negsuc n) = 0
 
--- ---- "Gap = cost of the best − the greatest floor evaluated. Surplus = net of the best − 100,000,000 × d. Evaluations = 1 if step 2 stops, 2 if step 3 stops, else 2 + the number of middles evaluated in step 4."
--- (Gap and surplus are never negative: see `Promise`.)
+-- ---- "Gap = cost of the best − the greatest floor evaluated. Surplus = net of the best − 100,000,000 × d. Evaluations = 1 if step 2 stops, 2 if step 3 stops, else 2 + the number of middles evaluated in step 4, …"
+-- Gap is the duality gap, as an amount; surplus the slack of the power balance. (Neither is ever negative: see `Promise`.)
 
 pub record Reply : Type 0 where
   pub evaluations : ℕ

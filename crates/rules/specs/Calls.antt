@@ -1,19 +1,18 @@
 -- Document 01, "The reply" and "What each contract says": for each public call, on every input, its answer and the final contents of every buffer that it was lent.
 -- A refusal leaves each buffer as it was; otherwise the call's output stands at the buffer's start, and the rest is untouched.
 use Prim.Native.Nat.{ℕ, _+_, _*_, _%_}
-use mathlib.Core.Bool.{Bool, true, false, cond, not, _||_}
+use mathlib.Core.Bool.{cond, not, _||_}
 use mathlib.Core.List.{List, [], _∷_, _++_, map}
 use lib.Dec.{ltb, eqb}
 use lib.IntN.{ℤ, pos}
 use lib.ListN.{length, drop}
 use Rattle.fields.specs.Field.{bytes, bytesOfEach}
 use Rattle.rules.specs.Lists.{sum}
-use Rattle.rules.specs.Layout.{Unit, Case, caseOf, unitsOfRows, rowsOfUnits, bodyLength, fileOf}
+use Rattle.rules.specs.Layout.{Unit, caseOf, unitsOfRows, rowsOfUnits, bodyLength, fileOf}
 use Rattle.rules.specs.Refusal.{numberOf, _refuses_, _then_, inOrder, fileVerdict, unitVerdict}
 use Rattle.rules.specs.Unit.{Problem, problemOf, unitsOf, totalNet, covers}
 use Rattle.rules.specs.Choice.{choices, dualValue}
 use Rattle.rules.specs.Bisection.{Reply, solvable, solve}
-use Rattle.rules.specs.declared.Refusal.{Refusal}
 use Rattle.rules.specs.declared.Refusal.the-variants.{
   BufferTooShort,
   NoAllocation,
@@ -86,7 +85,7 @@ pub record PackResult : Type 0 where
   pub answer : Packed
   pub file : List ℕ
 
--- the length of the file of some units: head, contents, bodies
+-- the length of `fileOf` for some units: head, contents, bodies (`RoundTrip.length-file`)
 abbrev pub fileLength : List Unit → ℕ
 fileLength us = 8 + 4 * length us + sum (map (λ u. bodyLength (u .zoneCount)) us)
 
@@ -124,7 +123,7 @@ unpackEnds Verdict.Accepted file rows =
 unfoldable pub unpacked : List ℕ → List ℕ → UnpackResult
 unpacked file rows = unpackEnds (unpackVerdict file rows) file rows
 
--- ---- the panel's calls, in C: "dispatch and packing return the length or the refusal number. Pricing and unpacking write their two answers into the start of a lent list of signed 64-bit numbers and return 0, or a refusal number; a list under two numbers is 1, in pricing after 14."
+-- ---- the panel's calls, in C, and the number and values of each answer: "There dispatch and packing return the length or the refusal number …. Pricing and unpacking write their two answers into the start of a lent list of signed 64-bit numbers … and return 0, or a refusal number; a list under two numbers is 1, in pricing after 14."
 
 abbrev pub numberOfDispatched : Dispatched → ℕ
 numberOfDispatched (Dispatched.Replied n) = n
@@ -151,6 +150,21 @@ abbrev pub answersOfUnpacked : Unpacked → List ℤ → List ℤ
 answersOfUnpacked (Unpacked.Read d n) answers = over (pos d ∷ pos n ∷ []) answers
 answersOfUnpacked (Unpacked.Refused r) answers = answers
 
+pub record PanelDispatchResult : Type 0 where
+  pub number : ℕ
+  pub reply : List ℕ
+
+unfoldable pub panelDispatched : List ℕ → List ℕ → PanelDispatchResult
+panelDispatched file reply = let r = dispatched file reply in record { number = numberOfDispatched (r .answer); reply = r .reply }
+
+pub record PanelPackResult : Type 0 where
+  pub number : ℕ
+  pub file : List ℕ
+
+unfoldable pub panelPacked : ℕ → List ℕ → List ℕ → PanelPackResult
+panelPacked d rows file = let r = packed d rows file in record { number = numberOfPacked (r .answer); file = r .file }
+
+-- (14 comes first in `priceVerdict` too; here the list's own check stands between it and the head.)
 pub record PanelPriceResult : Type 0 where
   pub number : ℕ
   pub answers : List ℤ

@@ -52,7 +52,7 @@ dividedUp (negsuc n) k = negℤ (pos (suc n / k))
 unfoldable pub floor : ℕ → Problem → ℤ
 floor m q = dividedUp (dualValue m q) 100000
 
--- the greatest that a function has at some multipliers
+-- the greatest that a function has at some multipliers (at none, 0)
 unfoldable pub greatestAt : (ℕ → ℤ) → List ℕ → ℤ
 greatestAt f [] = pos 0
 greatestAt f (m ∷ []) = f m

@@ -7,18 +7,18 @@ use lib.ListN.{length, getD, take, drop}
 use Rattle.fields.specs.Field.{field, bytes, bytesOfEach}
 use Rattle.rules.specs.Lists.{each}
 
--- A unit is a generating unit (a set): the nineteen numbers of a row, by name.
+-- A unit is a generating unit (a set): the nineteen numbers of a row, by name. Outputs are in steps, the resolution of 0.1 MW.
 pub record Unit : Type 0 where
   pub c0 : ℕ  -- cost coefficients: constant, linear, quadratic
   pub c1 : ℕ
   pub c2 : ℕ
-  pub b : ℕ  -- loss coefficient
-  pub least : ℕ  -- running outputs, in steps of 0.1 MW
+  pub b : ℕ  -- loss coefficient: the unit's own B coefficient
+  pub least : ℕ  -- limits of the running outputs
   pub greatest : ℕ
   pub previous : ℕ  -- previous output and ramp limits
   pub up : ℕ
   pub down : ℕ
-  pub mark : ℕ  -- 0 may stand, 1 must run
+  pub mark : ℕ  -- must-run flag: 0 may stand, 1 must run
   pub zoneCount : ℕ
   pub edges : List ℕ  -- four pairs of lower and upper edge, zero where unused
 
@@ -94,7 +94,7 @@ bodyOfUnit u =
     ++ bytes 2 (u .previous) ++ bytes 2 (u .up) ++ bytes 2 (u .down) ++ bytes 2 (u .mark) ++ bytes 2 (u .zoneCount)
     ++ bytesOfEach 2 (take (2 * u .zoneCount) (u .edges))
 
--- ---- the file: "Head, 8 bytes: edition, unit count n, demand d. Contents: n entries of offset and length, 16 bits each."
+-- ---- the file: "Head, 8 bytes: edition (16 bits, …), unit count n (16 bits, …), demand d (32 bits, …). … Contents: n entries of offset and length, 16 bits each." Contents is the file's directory.
 
 abbrev pub edition : List ℕ → ℕ
 edition file = field file 0 2
@@ -105,7 +105,7 @@ count file = field file 2 2
 abbrev pub demand : List ℕ → ℕ
 demand file = field file 4 4
 
--- the entry of unit i, counted from 0
+-- the entry of unit i, counted from 0: its offset and its length
 abbrev pub offset : List ℕ → ℕ → ℕ
 offset file i = field file (8 + 4 * i) 2
 

@@ -1,10 +1,10 @@
--- The few functions on lists that document 01's sentences need: each, all, those that, sum, greatest.
+-- The few functions on lists that document 01's sentences need.
 use Prim.Native.Nat.{ℕ, zero, suc, _+_, max}
 use mathlib.Core.Bool.{Bool, true, false, cond, _&&_}
 use mathlib.Core.List.{List, [], _∷_}
 
 module _ {A : Type 0} where
-  -- f 0, f 1, .. up to f (n - 1)
+  -- f 0, f 1, .. up to f (n - 1) (tabulate)
   abbrev pub each : ℕ → (ℕ → A) → List A
   each zero f = []
   each (suc n) f = f 0 ∷ each n (λ k. f (suc k))
@@ -15,15 +15,15 @@ module _ {A : Type 0} where
   all test (x ∷ xs) = test x && all test xs
 
   -- the elements of which a test holds, in order
-  abbrev pub those : (A → Bool) → List A → List A
-  those test [] = []
-  those test (x ∷ xs) = let rest = those test xs in cond (test x) (x ∷ rest) rest
+  abbrev pub filter : (A → Bool) → List A → List A
+  filter test [] = []
+  filter test (x ∷ xs) = let rest = filter test xs in cond (test x) (x ∷ rest) rest
 
 abbrev pub sum : List ℕ → ℕ
 sum [] = 0
 sum (x ∷ xs) = x + sum xs
 
--- the greatest of some numbers
+-- the greatest of some numbers (of none, 0)
 abbrev pub greatest : List ℕ → ℕ
 greatest [] = 0
 greatest (x ∷ xs) = max x (greatest xs)

@@ -1,4 +1,4 @@
--- Demand 3, one field a sentence, of a case file's bytes and of what dispatch answers and leaves in the reply. It names no data structure of the code.
+-- Demand 3, sentence by sentence, of a case file's bytes and of what dispatch answers and leaves in the reply. Of the code's types it names only the answer's enum.
 use Prim.Native.Nat.{ℕ, _+_, _*_, _≤_}
 use mathlib.Core.Bool.{true}
 use mathlib.Core.List.{List}
@@ -14,7 +14,7 @@ use Rattle.rules.specs.Refusal.{fileVerdict}
 use Rattle.rules.specs.Unit.{allocation, totalCost, totalNet, covers, Problem, problemOf}
 use Rattle.rules.specs.Choice.{choices, floor}
 use Rattle.rules.specs.Bisection.{Reply, found}
-use Rattle.rules.specs.Calls.{DispatchResult, dispatched}
+use Rattle.rules.specs.Calls.{DispatchResult}
 use Rattle.rules.specs.declared.Refusal.the-variants.{NoAllocation}
 use Rattle.rules.specs.declared.Verdict.{Verdict}
 use Rattle.rules.specs.declared.Dispatched.{Dispatched}
@@ -55,7 +55,7 @@ pub record ReplyPromise (c : Case) (r : Reply) : Type 0 where
   -- and have by document 01 exactly the cost and surplus that the reply states."
   pub cost : r .cost ≡ totalCost (c .units) (r .outputs)
   pub surplus : 100000000 * c .demand + r .surplus ≡ totalNet (c .units) (r .outputs)
-  -- "Whatever permitted outputs anyone gives the units, if they cover the demand after losses, they cost at least the reply's cost minus its gap: nobody spends less."
+  -- (weak duality) "Whatever permitted outputs anyone gives the units, if they cover the demand after losses, they cost at least the reply's cost minus its gap: nobody spends less."
   pub nobodySpendsLess : (ps : List ℕ) → Permitted c ps → Covering c ps → costLessGap r ≤ℤ pos (totalCost (c .units) ps)
   -- "That difference equals the greatest of the floors of all whole multipliers from 0 to 65,536."
   pub greatestFloor : GreatestFloor (problemOf c) (costLessGap r)
@@ -67,7 +67,7 @@ pub record ReplyPromise (c : Case) (r : Reply) : Type 0 where
 
 -- what holds of dispatch's answer for an accepted file
 pub record Promise (file : List ℕ) (result : DispatchResult) : Type 0 where
-  -- "For every accepted case file, dispatch refuses for lack of an allocation exactly when no permitted outputs cover the demand after losses."
+  -- (number 11) "For every accepted case file, dispatch refuses for lack of an allocation exactly when no permitted outputs cover the demand after losses."
   pub refuses : (result .answer ≡ Dispatched.Refused NoAllocation) ↔ ((ps : List ℕ) → Permitted (caseOf file) ps → Covering (caseOf file) ps → ⊥)
   -- "Otherwise it replies."
   pub replies : ¬ (result .answer ≡ Dispatched.Refused NoAllocation) → result .answer ≡ Dispatched.Replied (28 + 2 * length (caseOf file .units))

@@ -1,4 +1,4 @@
--- Document 01, "Refusals by the place of checking": "Each returns only its number. Within a place the numbers are checked as listed."
+-- Document 01, "Refusals by the place of checking": "Each returns only its number; … Within a place the numbers are checked as listed."
 use Prim.Native.Nat.{ℕ, zero, suc, _+_, _*_}
 use mathlib.Core.Bool.{Bool, cond, not, _&&_, _||_}
 use mathlib.Core.List.{List, [], _∷_}
@@ -28,6 +28,7 @@ use Rattle.rules.specs.declared.Verdict.the-variants.{Accepted, Refused}
 
 infixl 21 _refuses_
 infixr 20 _then_
+-- the number of each refusal in document 01's table
 abbrev pub numberOf : Refusal → ℕ
 numberOf BufferTooShort = 1
 numberOf FileTooShort = 2
@@ -43,6 +44,11 @@ numberOf NoAllocation = 11
 numberOf RowsInvalid = 12
 numberOf FileBufferTooShort = 13
 numberOf MultiplierOutOfRange = 14
+
+-- what checking finds, as a number: 0 where nothing is refused
+abbrev pub numberOfVerdict : Verdict → ℕ
+numberOfVerdict Accepted = 0
+numberOfVerdict (Refused r) = numberOf r
 
 -- a condition that refuses, and one check after another
 abbrev pub _refuses_ : Bool → Refusal → Verdict

@@ -9,7 +9,7 @@ use Rattle.fields.specs.Field.{Bytes}
 use Rattle.rules.specs.Layout.{unitOfBody, count, body}
 use Rattle.rules.specs.Refusal.{fileVerdict}
 use Rattle.rules.specs.Unit.{permitted}
-use Rattle.rules.specs.Calls.{PackResult, UnpackResult, over, packed, unpacked}
+use Rattle.rules.specs.Calls.{over, packed, unpacked}
 use Rattle.rules.specs.declared.Refusal.{Refusal}
 use Rattle.rules.specs.declared.Verdict.{Verdict}
 use Rattle.rules.specs.declared.Packed.{Packed}

@@ -3,7 +3,7 @@ use Prim.Native.Nat.{ℕ, suc, _+_, _*_, _-_}
 use mathlib.Core.Bool.{Bool, true, false, cond, not, _&&_}
 use mathlib.Core.List.{List, [], _∷_, map}
 use lib.Dec.{ltb, leb, eqb}
-use Rattle.rules.specs.Lists.{each, all, those, sum}
+use Rattle.rules.specs.Lists.{each, all, filter}
 use Rattle.rules.specs.Layout.{Unit, Zone, zones, Case}
 
 -- "strictly inside": both edges of a zone are permitted
@@ -29,10 +29,11 @@ unfoldable pub cost : Unit → ℕ → ℕ
 cost u p = u .c0 + u .c1 * p + u .c2 * p * p
 
 -- the net of a unit: its output after losses, in hundred-millionths of a step
+-- (The difference of naturals stops at 0; in an accepted file it never does: `Quantities.net-whole`.)
 unfoldable pub net : Unit → ℕ → ℕ
 net u p = 100000000 * p - u .b * p * p
 
--- ---- "An allocation gives each unit a permitted output. Its cost is the sum of the units' costs, its net the sum of their nets."
+-- ---- An allocation is a dispatch of the units, whether it covers or not. "An allocation gives each unit a permitted output. Its cost is the sum of the units' costs, its net the sum of their nets."
 
 unfoldable pub allocation : List Unit → List ℕ → Bool
 allocation [] [] = true
@@ -50,11 +51,11 @@ totalNet [] ps = 0
 totalNet (u ∷ us) [] = 0
 totalNet (u ∷ us) (p ∷ ps) = net u p + totalNet us ps
 
--- "it covers d, after losses, if its net is at least 100,000,000 × d"
+-- the power balance as an inequality: "it covers d, after losses, if its net is at least 100,000,000 × d"
 abbrev pub covers : ℕ → ℕ → Bool
 covers d n = leb (100000000 * d) n
 
--- ---- An offer is a unit with the outputs that it may be given; a problem is a demand and offers. A case is the problem where each unit offers all its permitted outputs.
+-- ---- An offer is a unit with its feasible set, the outputs that it may be given; a problem is a demand and offers. A case is the problem where each unit offers all its permitted outputs.
 
 pub record Offer : Type 0 where
   pub unit : Unit
@@ -69,7 +70,7 @@ unitsOf q = map (λ o. o .unit) (q .offers)
 
 -- every output from 0 to greatest that is permitted
 unfoldable pub offer : Unit → Offer
-offer u = record { unit = u; outputs = those (permitted u) (each (suc (u .greatest)) (λ p. p)) }
+offer u = record { unit = u; outputs = filter (permitted u) (each (suc (u .greatest)) (λ p. p)) }
 
 unfoldable pub problemOf : Case → Problem
 problemOf c = record { demand = c .demand; offers = map offer (c .units) }

@@ -4,19 +4,33 @@ ghost use Rattle.rules.specs.Refusal.{numberOf};
 
 // Why a call refuses. `number` gives document 01's number of each.
 pub enum Refusal {
+    // A reply under 92 bytes, rows under 608 numbers, or a panel's answers under two.
     BufferTooShort,
+    // A file under 8 bytes.
     FileTooShort,
+    // An edition that is not 1.
     EditionUnknown,
+    // A number of units outside 1 to 32.
     CountOutOfRange,
+    // A demand above 320,000 steps.
     DemandOutOfRange,
+    // Contents that do not fit in the file, an entry that does not name its body, or an end elsewhere.
     ContentsInvalid,
+    // More than four zones, a body whose length they do not fit, or in a row an unused edge that is not zero.
     ZoneCountInvalid,
+    // c0, c1, c2 or b above its limit.
     CoefficientOutOfRange,
+    // Least or greatest output out of range or order, or a zone's edge out of order.
     LimitsInvalid,
+    // Previous output, up step, down step or mark out of range.
     RampOrMarkOutOfRange,
+    // No permitted outputs cover the demand after losses.
     NoAllocation,
+    // A list of rows that is empty, above 608 numbers, or not 19 to a unit.
     RowsInvalid,
+    // A buffer too short for the packed file.
     FileBufferTooShort,
+    // A multiplier above 65,536.
     MultiplierOutOfRange,
 }
 

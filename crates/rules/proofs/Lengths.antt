@@ -1,0 +1,90 @@
+-- "Every length is at least 30, every number below it": a C caller can tell the two apart.
+use mathlib.Core.Path.{_≡_, refl}
+use mathlib.Core.List.{List, [], _∷_, map}
+use Prim.Native.Nat.{ℕ, _*_, _≤_, _<_}
+use native.Mathlib.Omega.{arith}
+use lib.ListN.{length}
+use Rattle.rules.specs.Lists.{sum}
+use Rattle.rules.specs.Layout.{Unit, unitOfBody, bodyLength, count, body, caseOf, unitsOfRows}
+use Rattle.rules.specs.Refusal.{numberOf}
+use Rattle.rules.specs.Unit.{problemOf}
+use Rattle.rules.specs.Bisection.{solve}
+use Rattle.rules.specs.Calls.{dispatchVerdict, dispatchEnds, dispatched, packVerdict, packed, replyBytes}
+use Rattle.rules.specs.declared.Refusal.{Refusal}
+use Rattle.rules.specs.declared.Refusal.the-variants.{
+  BufferTooShort,
+  FileTooShort,
+  EditionUnknown,
+  CountOutOfRange,
+  DemandOutOfRange,
+  ContentsInvalid,
+  ZoneCountInvalid,
+  CoefficientOutOfRange,
+  LimitsInvalid,
+  RampOrMarkOutOfRange,
+  NoAllocation,
+  RowsInvalid,
+  FileBufferTooShort,
+  MultiplierOutOfRange,
+}
+use Rattle.rules.specs.declared.Verdict.{Verdict}
+use Rattle.rules.specs.declared.Verdict.the-variants.{Accepted, Refused}
+use Rattle.rules.specs.declared.Dispatched.{Dispatched}
+use Rattle.rules.specs.declared.Packed.{Packed}
+use Rattle.rules.proofs.Lists.{every-more, length-each, accepts}
+use Rattle.rules.proofs.Sound.{Sound}
+use Rattle.rules.proofs.Body.{Packable}
+use Rattle.rules.proofs.SoundFile.{sound-file, units-packable}
+use Rattle.rules.proofs.RoundTrip.{length-file}
+use Rattle.rules.proofs.Undo.{sound-rows, pack-wrote}
+use Rattle.rules.proofs.ReplyBytes.{length-reply}
+use Rattle.rules.proofs.Demand3.{reply-count}
+
+pub number-below-30 : (r : Refusal) → numberOf r < 30
+number-below-30 BufferTooShort = omega arith
+number-below-30 FileTooShort = omega arith
+number-below-30 EditionUnknown = omega arith
+number-below-30 CountOutOfRange = omega arith
+number-below-30 DemandOutOfRange = omega arith
+number-below-30 ContentsInvalid = omega arith
+number-below-30 ZoneCountInvalid = omega arith
+number-below-30 CoefficientOutOfRange = omega arith
+number-below-30 LimitsInvalid = omega arith
+number-below-30 RampOrMarkOutOfRange = omega arith
+number-below-30 NoAllocation = omega arith
+number-below-30 RowsInvalid = omega arith
+number-below-30 FileBufferTooShort = omega arith
+number-below-30 MultiplierOutOfRange = omega arith
+
+-- ---- lengths
+
+replied-when : (v : Verdict) (file reply : List ℕ) (n : ℕ) → dispatchEnds v file reply .answer ≡ Dispatched.Replied n → (v ≡ Accepted) × (length (replyBytes (solve (problemOf (caseOf file)))) ≡ n)
+unfolding dispatchEnds
+replied-when Accepted file reply n e = (refl, cc)
+replied-when (Refused r) file reply n e = absurd (let z : _≡_ {A = ℕ} 0 1 = cc in omega arith)
+
+units-count : (file : List ℕ) → length (caseOf file .units) ≡ count file
+unfolding caseOf
+units-count file = length-each (count file) (λ i. unitOfBody (body file i))
+
+pub replied-from-30 : (file reply : List ℕ) (n : ℕ) → dispatched file reply .answer ≡ Dispatched.Replied n → 30 ≤ n
+unfolding dispatched dispatchVerdict
+replied-from-30 file reply n e =
+    let (accepted, long) = replied-when (dispatchVerdict file reply) file reply n e in
+    let (room, (verdict, solves)) = simp accepts at accepted in
+    let s = sound-file file verdict in
+    let c = caseOf file in
+    let sounds = every-more Packable Sound (λ u p. p .sound) (c .units) (units-packable s) in
+    let number = reply-count c sounds (omega (arith, units-count file, s .count-greatest)) solves in
+    omega (arith, long, length-reply (solve (problemOf c)), number, units-count file, s .count-least)
+
+bodies-long : (us : List Unit) → 26 * length us ≤ sum (map (λ u. bodyLength (u .zoneCount)) us)
+bodies-long [] = omega arith
+bodies-long (u ∷ us) = omega (arith, bodies-long us)
+
+pub packed-from-30 : (d : ℕ) (rows buffer : List ℕ) (n : ℕ) → packed d rows buffer .answer ≡ Packed.Written n → 30 ≤ n
+unfolding packed
+packed-from-30 d rows buffer n e =
+    let (accepted, long) = pack-wrote (packVerdict d rows buffer) d rows buffer n e in
+    let s = sound-rows d rows buffer accepted in
+    omega (arith, long, length-file d (unitsOfRows rows) (s .units), s .some, bodies-long (unitsOfRows rows))
