@@ -1,4 +1,4 @@
--- "Every length is at least 30, every number below it": a C caller can tell the two apart.
+-- "Every length is at least 30, every number below it": a C caller can tell the two apart. And no length is above 92, or 1,480 of a file.
 use mathlib.Core.Path.{_≡_, refl}
 use mathlib.Core.List.{List, [], _∷_, map}
 use Prim.Native.Nat.{ℕ, _*_, _≤_, _<_}
@@ -31,7 +31,7 @@ use Rattle.rules.specs.declared.Verdict.{Verdict}
 use Rattle.rules.specs.declared.Verdict.the-variants.{Accepted, Refused}
 use Rattle.rules.specs.declared.Dispatched.{Dispatched}
 use Rattle.rules.specs.declared.Packed.{Packed}
-use Rattle.rules.proofs.Lists.{every-more, length-each, accepts}
+use Rattle.rules.proofs.Lists.{Every, every-more, length-each, accepts}
 use Rattle.rules.proofs.Sound.{Sound}
 use Rattle.rules.proofs.Body.{Packable}
 use Rattle.rules.proofs.SoundFile.{sound-file, units-packable}
@@ -67,24 +67,24 @@ units-count : (file : List ℕ) → length (caseOf file .units) ≡ count file
 unfolding caseOf
 units-count file = length-each (count file) (λ i. unitOfBody (body file i))
 
-pub replied-from-30 : (file reply : List ℕ) (n : ℕ) → dispatched file reply .answer ≡ Dispatched.Replied n → 30 ≤ n
+pub replied-length : (file reply : List ℕ) (n : ℕ) → dispatched file reply .answer ≡ Dispatched.Replied n → (30 ≤ n) × (n ≤ 92)
 unfolding dispatched dispatchVerdict
-replied-from-30 file reply n e =
+replied-length file reply n e =
     let (accepted, long) = replied-when (dispatchVerdict file reply) file reply n e in
     let (room, (verdict, solves)) = simp accepts at accepted in
     let s = sound-file file verdict in
     let c = caseOf file in
     let sounds = every-more Packable Sound (λ u p. p .sound) (c .units) (units-packable s) in
     let number = reply-count c sounds (omega (arith, units-count file, s .count-greatest)) solves in
-    omega (arith, long, length-reply (solve (problemOf c)), number, units-count file, s .count-least)
+    omega (arith, long, length-reply (solve (problemOf c)), number, units-count file, s .count-least, s .count-greatest)
 
-bodies-long : (us : List Unit) → 26 * length us ≤ sum (map (λ u. bodyLength (u .zoneCount)) us)
-bodies-long [] = omega arith
-bodies-long (u ∷ us) = omega (arith, bodies-long us)
+bodies-length : (us : List Unit) → Every Packable us → (26 * length us ≤ sum (map (λ u. bodyLength (u .zoneCount)) us)) × (sum (map (λ u. bodyLength (u .zoneCount)) us) ≤ 42 * length us)
+bodies-length [] p = omega arith
+bodies-length (u ∷ us) p = omega (arith, bodies-length us (p .1), p .0 .sound .zoneCount)
 
-pub packed-from-30 : (d : ℕ) (rows buffer : List ℕ) (n : ℕ) → packed d rows buffer .answer ≡ Packed.Written n → 30 ≤ n
+pub packed-length : (d : ℕ) (rows buffer : List ℕ) (n : ℕ) → packed d rows buffer .answer ≡ Packed.Written n → (30 ≤ n) × (n ≤ 1480)
 unfolding packed
-packed-from-30 d rows buffer n e =
+packed-length d rows buffer n e =
     let (accepted, long) = pack-wrote (packVerdict d rows buffer) d rows buffer n e in
     let s = sound-rows d rows buffer accepted in
-    omega (arith, long, length-file d (unitsOfRows rows) (s .units), s .some, bodies-long (unitsOfRows rows))
+    omega (arith, long, length-file d (unitsOfRows rows) (s .units), s .some, s .few, bodies-length (unitsOfRows rows) (s .units))

@@ -21,7 +21,7 @@ use Rattle.rules.proofs.Search.{Searched, searched}
 use Rattle.rules.proofs.Solvable.{given-allocation, allocation-given, solvable-proper, solvable-covers}
 
 -- a gap that is not negative is exact
-natural-up : (z : ℤ) → natural z ≡ up z
+pub natural-up : (z : ℤ) → natural z ≡ up z
 unfolding natural up
 natural-up (pos n) = refl
 natural-up (lib.IntN.negsuc n) = refl
@@ -71,9 +71,20 @@ module _ (c : Case) (s : Every Sound (c .units)) (solves : solvable (problemOf c
       let q = problemOf c in
       gap-exact (totalCost (unitsOf q) (found q .best)) (greatestFloor q (found q .evaluated)) (shown .bound (found q .best) (shown .allowed) (shown .covers))
 
-  pub floor-not-negative : pos 0 ≤ℤ costLessGap (solve (problemOf c))
+  -- what the reply's subtractions need: the best covers, and costs at least the greatest floor, which is not negative
+  pub best-covers : 100000000 * c .demand ≤ totalNet (unitsOf (problemOf c)) (found (problemOf c) .best)
+  best-covers = shown .covers
+
+  pub floor-at-most-cost : greatestFloor (problemOf c) (found (problemOf c) .evaluated) ≤ℤ pos (totalCost (unitsOf (problemOf c)) (found (problemOf c) .best))
   unfolding floor
-  floor-not-negative = rw difference (shown .notNegative)
+  floor-at-most-cost = shown .bound (found (problemOf c) .best) (shown .allowed) (shown .covers)
+
+  pub greatest-floor-not-negative : pos 0 ≤ℤ greatestFloor (problemOf c) (found (problemOf c) .evaluated)
+  unfolding floor
+  greatest-floor-not-negative = shown .notNegative
+
+  pub floor-not-negative : pos 0 ≤ℤ costLessGap (solve (problemOf c))
+  floor-not-negative = rw difference greatest-floor-not-negative
 
   demand-is : problemOf c .demand ≡ c .demand
   unfolding problemOf

@@ -1,0 +1,5 @@
+pub mod ReplyWritten
+pub mod Halving
+pub mod Searching
+pub mod Stating
+pub mod Endings

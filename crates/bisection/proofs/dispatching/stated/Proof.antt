@@ -1,0 +1,37 @@
+-- `bisection::dispatching::stated` meets its contract: gap and surplus are in range and exact (`Stating`).
+use lib.ListN.{length}
+use mathlib.Core.Path.{_≡_}
+use mir.Syntax.{w64}
+use mir.Val.{SFits}
+use Rattle.bisection.proofs.Stating.{gap-fits, gap-not-negative, gap-small, states}
+use borrow.Author.Needs.{needs}
+use Rattle.bisection.proofs.dispatching.stated.Statement.{statement}
+use Rattle.bisection.proofs.dispatching.stated.Tie as tie
+
+-- what every struct of the type holds
+floor-fits : (c : tie.Start) → SFits w64 (c .args .f .floor)
+floor-fits c = search needs
+
+outputs-long : (c : tie.Start) → length (c .args .f .best .outputs) ≡ 32
+outputs-long c = search needs
+
+cast-t9 : tie.Need-cast-t9
+cast-t9 c = search needs
+
+sub-t10 : tie.Need-sub-t10
+sub-t10 c = let s = c .before .before .before in gap-fits (s .pre) (floor-fits s)
+
+cast-t11 : tie.Need-cast-t11
+cast-t11 c = let s = c .before .before .before in (gap-not-negative (s .pre) (floor-fits s), record { fits = gap-small (s .pre) (floor-fits s) })
+
+mul-t12 : tie.Need-mul-t12
+mul-t12 c = search needs
+
+sub-t13 : tie.Need-sub-t13
+sub-t13 c = search needs
+
+returns : tie.Need-returns
+returns c = let s = c .before .before .before .before in states (s .pre) (floor-fits s) (outputs-long s)
+
+pub stated-spec : {M : Type 1} → statement M
+stated-spec = tie.close (tie.spec cast-t9 sub-t10 cast-t11 mul-t12 sub-t13 returns)

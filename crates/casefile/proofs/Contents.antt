@@ -1,0 +1,130 @@
+-- The contents: what the loop over the entries keeps, and that accepted entries name bodies inside the file.
+use Prim.Native.Nat.{ℕ, zero, suc, _+_, _*_, _-_, _≤_, _<_}
+use native.Mathlib.Nat.{add-suc, add-zero}
+use native.Mathlib.Decide.{decLt}
+use native.Mathlib.Numerals.{add-one}
+use native.Mathlib.Omega.{arith}
+use mathlib.Core.Path.{_≡_, ap, sym, _∙_}
+use mathlib.Core.Bool.{Bool, true, false, not, _||_, true≢false}
+use mathlib.Core.Logic.{_⊎_, inl, inr}
+use mathlib.Core.List.{List}
+use lib.Dec.{ltb, eqb}
+use lib.ListN.{length, drop, length-drop}
+use lib.Seq.{length-take-le}
+use borrow.Author.Tests.{lt-ltb, le-ltb, eq-eqb, ne-eqb}
+use Rattle.rules.specs.Lists.{each, all}
+use Rattle.rules.specs.Layout.{count, offset, size, body}
+use Rattle.rules.specs.Refusal.{_refuses_, start, legalSize, entryFits, contentsVerdict}
+use Rattle.rules.specs.declared.Refusal.the-variants.{ContentsInvalid}
+use Rattle.rules.specs.declared.Verdict.the-variants.{Accepted}
+use Rattle.rules.proofs.Lists.{each-every, all-every, accepts}
+use Rattle.casefile.specs.Held.{BodyInside}
+use Rattle.casefile.proofs.Each.{rest-ends, rest-more}
+
+-- ---- legal lengths
+
+module _ (l : ℕ) where
+  pub legal : (l ≡ 26) ⊎ ((l ≡ 30) ⊎ ((l ≡ 34) ⊎ ((l ≡ 38) ⊎ (l ≡ 42)))) → legalSize l ≡ true
+  legal (inl e) = rw e
+  legal (inr (inl e)) = rw e
+  legal (inr (inr (inl e))) = rw e
+  legal (inr (inr (inr (inl e)))) = rw e
+  legal (inr (inr (inr (inr e)))) = rw e
+
+  pub illegal : (l ≡ 26 → ⊥) → (l ≡ 30 → ⊥) → (l ≡ 34 → ⊥) → (l ≡ 38 → ⊥) → (l ≡ 42 → ⊥) → legalSize l ≡ false
+  illegal a b c d e = rw (ne-eqb l 26 a, ne-eqb l 30 b, ne-eqb l 34 c, ne-eqb l 38 d, ne-eqb l 42 e)
+
+  legal-long : legalSize l ≡ true → 26 ≤ l
+  legal-long e = by (decLt l 26)
+    where
+      by : Dec (l < 26) → 26 ≤ l
+      by (yes h) = absurd (true≢false (sym e ∙ illegal (omega arith) (omega arith) (omega arith) (omega arith) (omega arith)))
+      by (no h) = omega arith
+
+-- ---- the loop over the entries
+
+-- whether the entries from number i on fit
+abbrev pub fitFrom : List ℕ → ℕ → ℕ → Bool
+fitFrom file n i = all (entryFits file) (drop i (each n (λ k. k)))
+
+abbrev pub invalid : List ℕ → ℕ → Bool
+invalid file n = ltb (length file) (8 + 4 * n) || not (fitFrom file n 0) || not (eqb (start file n) (length file))
+
+-- the first i entries fit, and the last of them ends at `at`
+pub record Passed (file : List ℕ) (n at i : ℕ) : Type 0 where
+  pub within : i ≤ n
+  pub room : 8 + 4 * n ≤ length file
+  pub ends : at ≡ start file i
+  pub fit : fitFrom file n 0 ≡ fitFrom file n i
+
+module _ (file : List ℕ) (n : ℕ) where
+  pub contents-short : length file < 8 + 4 * n → invalid file n ≡ true
+  contents-short h = rw (lt-ltb (length file) (8 + 4 * n) h)
+
+  module _ (at i : ℕ) (p : Passed file n at i) where
+    misfit : fitFrom file n i ≡ false → invalid file n ≡ true
+    misfit e = rw (le-ltb (length file) (8 + 4 * n) (p .room), p .fit ∙ e)
+
+    pub contents-end : n ≤ i → invalid file n ≡ not (eqb at (length file))
+    contents-end h =
+        let e : i ≡ n = omega (arith, p .within) in
+        let all : fitFrom file n 0 ≡ true = p .fit ∙ rw (rest-ends n (λ k. k) i h) in
+        let end : at ≡ start file n = p .ends ∙ ap (start file) e in
+        rw (le-ltb (length file) (8 + 4 * n) (p .room), all, end)
+
+    module _ (h : i < n) where
+      pub contents-offset : (offset file i ≡ at → ⊥) → invalid file n ≡ true
+      contents-offset m =
+          misfit (rw (rest-more n (λ k. k) i h, ne-eqb (offset file i) (start file i) (λ e. m (e ∙ sym (p .ends)))))
+
+      module _ (o : offset file i ≡ at) where
+        follows : eqb (offset file i) (start file i) ≡ true
+        follows = eq-eqb (offset file i) (start file i) (o ∙ p .ends)
+
+        pub contents-size : legalSize (size file i) ≡ false → invalid file n ≡ true
+        contents-size e = misfit (rw (rest-more n (λ k. k) i h, follows, e))
+
+        pub passed-more : legalSize (size file i) ≡ true → Passed file n (offset file i + size file i) (i + 1)
+        passed-more e =
+            record {
+              within = omega arith;
+              room = p .room;
+              ends = rw (add-one i);
+              fit = p .fit ∙ rw (rest-more n (λ k. k) i h, follows, e);
+            }
+
+-- ---- accepted contents
+
+record Fitting (file : List ℕ) (i : ℕ) : Type 0 where
+  follows : offset file i ≡ start file i
+  long : 26 ≤ size file i
+
+module _ (file : List ℕ) (accepted : contentsVerdict file ≡ Accepted) where
+  fitting : (i : ℕ) → i < count file → Fitting file i
+  unfolding contentsVerdict
+  fitting i h =
+      let ((room, fit), ends) = simp accepts at accepted in
+      let every = all-every (entryFits file) (each (count file) (λ k. k)) .0 fit in
+      let (follows, legal) = simp accepts at (each-every (λ k. entryFits file k ≡ true) (count file) (λ k. k) every i h) in
+      record { follows = follows; long = legal-long (size file i) legal }
+
+  -- a body starts where an earlier one ends, or later
+  climbs : (i k : ℕ) → i + k ≤ count file → start file i ≤ start file (i + k)
+  climbs i zero h = rw add-zero (omega arith)
+  climbs i (suc k) h = rw add-suc (omega (arith, climbs i k (omega arith), fitting (i + k) (omega arith) .follows))
+
+  pub body-inside : (i : ℕ) → i < count file → BodyInside file i
+  unfolding contentsVerdict
+  body-inside i h =
+      let ((room, fit), ends) = simp accepts at accepted in
+      let e : suc i + (count file - suc i) ≡ count file = omega arith in
+      let below : start file (suc i) ≤ start file (count file) = rw e at (climbs (suc i) (count file - suc i) (omega arith)) in
+      record { entry = omega arith; within = omega arith; long = fitting i h .long }
+
+pub body-length : {file : List ℕ} {i : ℕ} → BodyInside file i → length (body file i) ≡ size file i
+body-length {file} {i} b =
+    length-take-le (size file i) (drop (offset file i) file) (simp length-drop (omega (arith, b .within)))
+
+pub contents-verdict : (file : List ℕ) (n : ℕ) → n ≡ count file → contentsVerdict file ≡ invalid file n refuses ContentsInvalid
+unfolding contentsVerdict
+contents-verdict file n e = rw e

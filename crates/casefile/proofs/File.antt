@@ -1,0 +1,52 @@
+-- The verdict on a file, place by place, and what an accepted file is.
+use Prim.Native.Nat.{ℕ, _<_}
+use mathlib.Core.Path.{_≡_, sym, _∙_}
+use mathlib.Core.List.{List}
+use Rattle.rules.specs.Lists.{each}
+use Rattle.rules.specs.Layout.{unitOfBody, count, body}
+use Rattle.rules.specs.Refusal.{inOrder, headVerdict, contentsVerdict, unitVerdict, bodyVerdict, fileVerdict}
+use Rattle.rules.specs.declared.Refusal.{Refusal}
+use Rattle.rules.specs.declared.Verdict.the-variants.{Accepted, Refused}
+use Rattle.rules.proofs.Lists.{accepts, in-order-accepted, each-every}
+use Rattle.casefile.specs.Held.{BodyInside, BodyFits, HeadRead}
+use Rattle.casefile.proofs.Head.{head-read}
+use Rattle.casefile.proofs.Body.{verdictAt, body-fits, body-accepted}
+use Rattle.casefile.proofs.Contents.{body-inside}
+
+module _ (file : List ℕ) where
+  pub file-head : {r : Refusal} → headVerdict file ≡ Refused r → fileVerdict file ≡ Refused r
+  unfolding fileVerdict
+  file-head e = rw e
+
+  module _ (h : headVerdict file ≡ Accepted) where
+    pub file-contents : {r : Refusal} → contentsVerdict file ≡ Refused r → fileVerdict file ≡ Refused r
+    unfolding fileVerdict
+    file-contents e = rw (h, e)
+
+    pub file-bodies : contentsVerdict file ≡ Accepted → fileVerdict file ≡ inOrder (each (count file) (verdictAt file))
+    unfolding fileVerdict
+    file-bodies e = rw (h, e)
+
+-- ---- an accepted file
+
+module _ (file : List ℕ) (accepted : fileVerdict file ≡ Accepted) where
+  pub accepted-head : HeadRead file (count file)
+  unfolding fileVerdict
+  accepted-head = let (head, (contents, bodies)) = simp accepts at accepted in head-read file head
+
+  module _ (i : ℕ) (h : i < count file) where
+    pub accepted-inside : BodyInside file i
+    unfolding fileVerdict
+    accepted-inside = let (head, (contents, bodies)) = simp accepts at accepted in body-inside file contents i h
+
+    pub accepted-body : bodyVerdict (body file i) ≡ Accepted
+    unfolding fileVerdict
+    accepted-body =
+        let (head, (contents, bodies)) = simp accepts at accepted in
+        each-every (λ v. v ≡ Accepted) (count file) (verdictAt file) (in-order-accepted (each (count file) (verdictAt file)) .0 bodies) i h
+
+    pub accepted-fits : BodyFits (body file i)
+    accepted-fits = body-accepted (body file i) accepted-body
+
+    pub accepted-unit : unitVerdict (unitOfBody (body file i)) ≡ Accepted
+    accepted-unit = sym (body-fits (body file i) accepted-fits) ∙ accepted-body

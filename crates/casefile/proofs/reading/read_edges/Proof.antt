@@ -1,0 +1,65 @@
+-- `casefile::reading::read_edges` meets its contract: the first k edges are read.
+use Prim.Native.Nat.{ℕ, _+_, _≤_, _-_, _*_}
+use native.Mathlib.Omega.{arith}
+use mathlib.Core.Path.{_≡_, refl, ap, _∙_}
+use denote.Ref.{now}
+use Rattle.fields.specs.Field.{field}
+use Rattle.casefile.proofs.Edges.{first, first-more, body-edges}
+use Rattle.casefile.proofs.reading.read_edges.Statement.{statement}
+use Rattle.casefile.proofs.reading.read_edges.Tie as tie
+
+abbrev Inv-loop : tie.InvT-loop
+Inv-loop body z edges₀ k₀ edges k = (k ≤ 2 * z) × (edges ≡ first (λ j. field body (26 + 2 * j) 2) k)
+
+abbrev μ-loop : tie.MeasureT-loop
+μ-loop body z edges₀ k₀ edges k = 2 * z - k
+
+loop-holds : tie.Need-loop-holds Inv-loop μ-loop
+loop-holds c = (omega arith, refl)
+
+mul-loop : tie.Need-mul-loop Inv-loop μ-loop
+mul-loop c = omega arith
+
+read-edge-requires : tie.Need-read-edge-requires Inv-loop μ-loop
+read-edge-requires c κs = omega arith
+
+mul-edges : tie.Need-mul-edges Inv-loop μ-loop
+mul-edges c = omega arith
+
+array-write-edges : tie.Need-array-write-edges Inv-loop μ-loop
+array-write-edges c = omega arith
+
+add-k : tie.Need-add-k Inv-loop μ-loop
+add-k c = omega arith
+
+loop-less : tie.Need-loop-less Inv-loop μ-loop
+loop-less c = omega arith
+
+loop-again : tie.Need-loop-again Inv-loop μ-loop
+loop-again c =
+    let l = c .before .before .loop in
+    let f : ℕ → ℕ = λ j. field (now (c .before .before .before .before .args .body)) (26 + 2 * j) 2 in
+    (omega arith, rw (l .inv .1, c .read-edge .ensures) (first-more f (l .k) (omega arith)))
+
+returns : tie.Need-returns Inv-loop μ-loop
+returns c =
+    let l = c .before .loop in
+    let a = c .before .before .before .args in
+    let e : l .k ≡ 2 * a .z = omega arith in
+    l .inv .1 ∙ ap (first (λ j. field (now (a .body)) (26 + 2 * j) 2)) e ∙ body-edges (now (a .body)) (a .z)
+
+pub read-edges-spec : {M : Type 1} → statement M
+read-edges-spec =
+    tie.close
+    (tie.spec
+    Inv-loop
+    μ-loop
+    loop-holds
+    mul-loop
+    read-edge-requires
+    mul-edges
+    array-write-edges
+    add-k
+    loop-less
+    loop-again
+    returns)

@@ -1,0 +1,32 @@
+// Reading an accepted case file: the demand, the unit count and each unit, which together are the file's case.
+ghost use mathlib.Core.Path.{_≡_};
+ghost use Prim.Native.Nat.{_<_};
+ghost use Rattle.rules.specs.Layout.{count, demand};
+ghost use Rattle.rules.specs.Refusal.{fileVerdict};
+ghost use Rattle.casefile.specs.Held.{unitHeld, unitAt};
+use crate::Unit;
+use crate::checking::body_of;
+use crate::reading::read_body;
+use rules::Verdict;
+
+pub fn demand(file: &[u8]) -> u32
+    requires { ⌜ fileVerdict (now file) ≡ Verdict.Accepted ⌝ }
+    ensures { λ r. ⌜ r ≡ demand (now (file .entry)) ⌝ }
+{
+    fields::read_u32(file, 4)
+}
+
+pub fn count(file: &[u8]) -> usize
+    requires { ⌜ fileVerdict (now file) ≡ Verdict.Accepted ⌝ }
+    ensures { λ r. ⌜ r ≡ count (now (file .entry)) ⌝ }
+{
+    fields::read_u16(file, 2) as usize
+}
+
+pub fn read_unit(file: &[u8], i: usize) -> Unit
+    requires { ⌜ fileVerdict (now file) ≡ Verdict.Accepted ⌝ }
+    requires { ⌜ i < count (now file) ⌝ }
+    ensures { λ r. ⌜ unitHeld r ≡ unitAt (now (file .entry)) i ⌝ }
+{
+    read_body(body_of(file, i))
+}

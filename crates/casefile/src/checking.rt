@@ -1,0 +1,129 @@
+// Checking a case file: head, contents, then body by body. The first refusal is the answer.
+ghost use mathlib.Core.Path.{_≡_};
+ghost use mathlib.Core.Bool.{not, _||_};
+ghost use Prim.Native.Nat.{_+_, _*_, _≤_, _<_};
+ghost use lib.Dec.{ltb, eqb};
+ghost use lib.ListN.{length};
+ghost use Rattle.rules.specs.Lists.{each, all};
+ghost use Rattle.rules.specs.Layout.{count, body};
+ghost use Rattle.rules.specs.Refusal.{inOrder, headVerdict, start, legalSize, entryFits, contentsVerdict, bodyVerdict, fileVerdict};
+ghost use Rattle.casefile.specs.Held.{HeadRead, BodyInside};
+use crate::reading::read_body;
+use crate::units::check_unit;
+use rules::Refusal;
+use rules::Verdict;
+
+pub fn check_body(body: &[u8]) -> Verdict
+    requires { ⌜ 26 ≤ length (now body) ⌝ }
+    ensures { λ r. ⌜ r ≡ bodyVerdict (now (body .entry)) ⌝ }
+{
+    let zone_count = fields::read_u16(body, 24) as usize;
+    if zone_count > 4 || body.len() != 26 + 4 * zone_count {
+        return Verdict::Refused(Refusal::ZoneCountInvalid);
+    }
+    check_unit(read_body(body))
+}
+
+pub fn check_head(file: &[u8]) -> Verdict
+    ensures { λ r. ⌜ r ≡ headVerdict (now (file .entry)) ⌝ }
+{
+    if file.len() < 8 {
+        return Verdict::Refused(Refusal::FileTooShort);
+    }
+    if fields::read_u16(file, 0) != 1 {
+        return Verdict::Refused(Refusal::EditionUnknown);
+    }
+    let n = fields::read_u16(file, 2);
+    if n < 1 || n > 32 {
+        return Verdict::Refused(Refusal::CountOutOfRange);
+    }
+    if fields::read_u32(file, 4) > 320000 {
+        return Verdict::Refused(Refusal::DemandOutOfRange);
+    }
+    Verdict::Accepted
+}
+
+fn legal_size(size: u16) -> bool
+    ensures { λ r. ⌜ r ≡ legalSize size ⌝ }
+{
+    match size {
+        26 | 30 | 34 | 38 | 42 => true,
+        _ => false,
+    }
+}
+
+fn contents_invalid(file: &[u8], n: usize) -> bool
+    requires { ⌜ HeadRead (now file) n ⌝ }
+    ensures { λ r. ⌜ r ≡ (ltb (length (now (file .entry))) (8 + 4 * n) || not (all (entryFits (now (file .entry))) (each n (λ i. i))) || not (eqb (start (now (file .entry)) n) (length (now (file .entry))))) ⌝ }
+{
+    let mut at = 8 + 4 * n;
+    if file.len() < at {
+        return true;
+    }
+    let mut i = 0;
+    while i < n {
+        let offset = fields::read_u16(file, 8 + 4 * i) as usize;
+        let size = fields::read_u16(file, 10 + 4 * i);
+        if offset != at {
+            return true;
+        }
+        if !legal_size(size) {
+            return true;
+        }
+        at = offset + size as usize;
+        i += 1;
+    }
+    at != file.len()
+}
+
+pub fn check_contents(file: &[u8], n: usize) -> Verdict
+    requires { ⌜ HeadRead (now file) n ⌝ }
+    ensures { λ r. ⌜ r ≡ contentsVerdict (now (file .entry)) ⌝ }
+{
+    if contents_invalid(file, n) {
+        return Verdict::Refused(Refusal::ContentsInvalid);
+    }
+    Verdict::Accepted
+}
+
+// The part of the file that entry `i` names.
+pub fn body_of(file: &[u8], i: usize) -> &[u8]
+    requires { ⌜ BodyInside (now file) i ⌝ }
+    ensures { λ r. ⌜ now r ≡ body (now (file .entry)) i ⌝ }
+{
+    let offset = fields::read_u16(file, 8 + 4 * i) as usize;
+    let end = offset + fields::read_u16(file, 10 + 4 * i) as usize;
+    &file[offset..end]
+}
+
+fn check_bodies(file: &[u8], n: usize) -> Verdict
+    requires { ⌜ HeadRead (now file) n ⌝ }
+    requires { ⌜ contentsVerdict (now file) ≡ Verdict.Accepted ⌝ }
+    ensures { λ r. ⌜ r ≡ inOrder (each n (λ i. bodyVerdict (body (now (file .entry)) i))) ⌝ }
+{
+    let mut i = 0;
+    while i < n {
+        let verdict = check_body(body_of(file, i));
+        if let Verdict::Refused(_) = verdict {
+            return verdict;
+        }
+        i += 1;
+    }
+    Verdict::Accepted
+}
+
+// The verdict on a file of any bytes.
+pub fn check(file: &[u8]) -> Verdict
+    ensures { λ r. ⌜ r ≡ fileVerdict (now (file .entry)) ⌝ }
+{
+    let head = check_head(file);
+    if let Verdict::Refused(_) = head {
+        return head;
+    }
+    let n = fields::read_u16(file, 2) as usize;
+    let contents = check_contents(file, n);
+    if let Verdict::Refused(_) = contents {
+        return contents;
+    }
+    check_bodies(file, n)
+}

@@ -1,0 +1,37 @@
+// Case files and planner's rows, as document 01 lays them out: checking, reading, packing and unpacking.
+// What each function answers, and what it leaves in a lent buffer, is equated with the definitions of crate `rules`.
+mod accepted;
+mod checking;
+mod packing;
+mod reading;
+mod units;
+mod unpacking;
+
+pub use accepted::count;
+pub use accepted::demand;
+pub use accepted::read_unit;
+pub use checking::check;
+pub use checking::check_body;
+pub use checking::check_contents;
+pub use checking::check_head;
+pub use packing::pack;
+pub use reading::read_body;
+pub use reading::read_row;
+pub use units::check_unit;
+pub use unpacking::unpack;
+
+// A unit as the nineteen numbers of a row.
+pub struct Unit {
+    pub c0: u32,
+    pub c1: u32,
+    pub c2: u32,
+    pub b: u32,
+    pub least: u32,
+    pub greatest: u32,
+    pub previous: u32,
+    pub up: u32,
+    pub down: u32,
+    pub mark: u32,
+    pub zone_count: u32,
+    pub edges: [u32; 8],
+}

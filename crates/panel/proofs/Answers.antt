@@ -1,0 +1,69 @@
+-- An answer of a call on slices, told to C: its number, and its values at the start of a lent list.
+use Prim.Native.Nat.{ℕ, _≤_, _<_}
+use native.Mathlib.Omega.{arith}
+use mathlib.Core.Path.{_≡_, refl, ap, _∙_}
+use mathlib.Core.List.{List, [], _∷_}
+use lib.IntN.{ℤ}
+use lib.ListN.{length, set}
+use borrow.Author.Tests.{lt-ltb, le-ltb}
+use Rattle.rules.specs.Refusal.{numberOf}
+use Rattle.rules.specs.Calls.{DispatchResult, PackResult, over, dispatched, priceVerdict, priceEnds, priced, packed, unpackVerdict, unpackEnds, unpacked, numberOfDispatched, numberOfPacked, numberOfPriced, answersOfPriced, numberOfUnpacked, answersOfUnpacked, panelDispatched, panelPacked, panelPriced, panelUnpacked}
+use Rattle.rules.specs.declared.Refusal.the-variants.{BufferTooShort, MultiplierOutOfRange}
+use Rattle.rules.specs.declared.Dispatched.{Dispatched}
+use Rattle.rules.specs.declared.Packed.{Packed}
+use Rattle.rules.specs.declared.Priced.{Priced}
+use Rattle.rules.specs.declared.Unpacked.{Unpacked}
+use Rattle.rules.proofs.Lengths.{replied-length, packed-length}
+
+-- two numbers written to the start of a list
+pub two-written : (xs : List ℤ) (a b : ℤ) → 2 ≤ length xs → set (set xs 0 a) 1 b ≡ over (a ∷ b ∷ []) xs
+two-written [] a b h = absurd (omega arith)
+two-written (x ∷ []) a b h = absurd (omega arith)
+two-written (x ∷ y ∷ xs) a b h = refl
+
+-- ---- dispatch and packing
+
+pub dispatch-told : (file reply : List ℕ) {a b : Dispatched} {s : List ℕ} {n : ℕ} → dispatched file reply ≡ record { answer = a; reply = s } → a ≡ b → n ≡ numberOfDispatched b → panelDispatched file reply ≡ record { number = n; reply = s }
+unfolding panelDispatched
+dispatch-told file reply e f g = rw (e, f, g)
+
+pub replied-small : (file reply : List ℕ) {a : Dispatched} {s : List ℕ} {n : ℕ} → dispatched file reply ≡ record { answer = a; reply = s } → a ≡ Dispatched.Replied n → n ≤ 92
+replied-small file reply {n = n} e f = replied-length file reply n (ap (λ (r : DispatchResult). r .answer) e ∙ f) .1
+
+pub pack-told : (d : ℕ) (rows file : List ℕ) {a b : Packed} {s : List ℕ} {n : ℕ} → packed d rows file ≡ record { answer = a; file = s } → a ≡ b → n ≡ numberOfPacked b → panelPacked d rows file ≡ record { number = n; file = s }
+unfolding panelPacked
+pack-told d rows file e f g = rw (e, f, g)
+
+pub packed-small : (d : ℕ) (rows file : List ℕ) {a : Packed} {s : List ℕ} {n : ℕ} → packed d rows file ≡ record { answer = a; file = s } → a ≡ Packed.Written n → n ≤ 1480
+packed-small d rows file {n = n} e f = packed-length d rows file n (ap (λ (r : PackResult). r .answer) e ∙ f) .1
+
+-- ---- pricing
+
+module _ (file : List ℕ) (m : ℕ) (answers : List ℤ) where
+  pub multiplier-told : 65536 < m → {n : ℕ} → n ≡ numberOf MultiplierOutOfRange → panelPriced file m answers ≡ record { number = n; answers = answers }
+  unfolding panelPriced priceEnds
+  multiplier-told h e = rw (lt-ltb 65536 m h, e)
+
+  module _ (small : m ≤ 65536) where
+    pub price-short : length answers < 2 → {n : ℕ} → n ≡ numberOf BufferTooShort → panelPriced file m answers ≡ record { number = n; answers = answers }
+    unfolding panelPriced priceEnds
+    price-short h e = rw (le-ltb 65536 m small, lt-ltb (length answers) 2 h, e)
+
+    pub price-told : 2 ≤ length answers → {a : Priced} → priced file m ≡ a → {n : ℕ} {zs : List ℤ} → n ≡ numberOfPriced a → zs ≡ answersOfPriced a answers → panelPriced file m answers ≡ record { number = n; answers = zs }
+    unfolding panelPriced priced
+    price-told h e f g =
+        let same : priceEnds (priceVerdict file m) file m ≡ _ = e in
+        rw (le-ltb 65536 m small, le-ltb (length answers) 2 h, same, f, g)
+
+-- ---- unpacking
+
+module _ (file rows : List ℕ) (answers : List ℤ) where
+  pub unpack-short : length answers < 2 → {n : ℕ} → n ≡ numberOf BufferTooShort → panelUnpacked file rows answers ≡ record { number = n; rows = rows; answers = answers }
+  unfolding panelUnpacked unpackEnds
+  unpack-short h e = rw (lt-ltb (length answers) 2 h, e)
+
+  pub unpack-told : 2 ≤ length answers → {a b : Unpacked} {s : List ℕ} → unpacked file rows ≡ record { answer = a; rows = s } → a ≡ b → {n : ℕ} {zs : List ℤ} → n ≡ numberOfUnpacked b → zs ≡ answersOfUnpacked b answers → panelUnpacked file rows answers ≡ record { number = n; rows = s; answers = zs }
+  unfolding panelUnpacked unpacked
+  unpack-told h e i f g =
+      let same : unpackEnds (unpackVerdict file rows) file rows ≡ _ = e in
+      rw (le-ltb (length answers) 2 h, same, i, f, g)

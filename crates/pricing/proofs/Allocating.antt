@@ -1,0 +1,99 @@
+-- A loop that gives the units their outputs one by one: what stands so far, with what is still to come, is the whole.
+use mathlib.Core.Path.{_≡_, refl, sym, ap, _∙_}
+use mathlib.Core.List.{List, [], _∷_, _++_, map, append-assoc, append-nil}
+use Prim.Native.Nat.{ℕ, suc, _+_, _≤_, _<_}
+use native.Mathlib.Numerals.{add-one}
+use native.Mathlib.Omega.{arith}
+use lib.ListN.{length, getD, take, drop, set, replicate, length-set, drop-of-length-le}
+use lib.Seq.{drop-cons, take-suc-set, getD-set-other}
+use Rattle.rules.specs.Layout.{Unit}
+use Rattle.rules.specs.Unit.{cost, net, totalCost, totalNet, Offer, Problem, unitsOf}
+use Rattle.rules.proofs.Quantities.{cost-range, net-range}
+use Rattle.pricing.specs.declared.Offer as code-offer
+use Rattle.pricing.specs.declared.Problem as code-problem
+use Rattle.pricing.specs.declared.Choice as code-choice
+use Rattle.pricing.specs.declared.Allocation as code-allocation
+use Rattle.pricing.specs.Held.{Coefficients, Prices, Holds}
+use Rattle.pricing.specs.Totals.{nothingOffered, offerAt, HoldsProblem, nothing, added, HoldsOutputs, Sized}
+use Rattle.pricing.proofs.Range.{sound}
+use Rattle.pricing.proofs.Held.{cost-held, net-held}
+
+-- ---- numbers in range
+
+pub sized-starts : Sized 0 nothing
+sized-starts = record { cost = omega arith; net = omega arith; length = refl; rest = zeros }
+  where
+    zero-at : (n i : ℕ) → getD {A = ℕ} (replicate n 0) i 0 ≡ 0
+    zero-at ℕ.zero i = refl
+    zero-at (suc n) ℕ.zero = refl
+    zero-at (suc n) (suc i) = zero-at n i
+
+    zeros : (i : ℕ) → 0 ≤ i → getD {A = ℕ} (replicate 32 0) i 0 ≡ 0
+    zeros i h = zero-at 32 i
+
+pub sized-more : {o : code-offer.Offer} {m i : ℕ} {a : code-allocation.Allocation} {c : code-choice.Choice} → Sized i a → Coefficients o → Prices m o c → c .output ≤ 10000 → Sized (i + 1) (added a i c)
+sized-more {i = i} {a} {c} s k p h =
+    record {
+      cost = omega (arith, p .cost, cost-range (sound k) h);
+      net = omega (arith, p .net, net-range (sound k) h);
+      length = length-set (a .outputs) i (c .output) ∙ s .length;
+      rest = λ j l. getD-set-other (a .outputs) i j (c .output) 0 (λ e. omega arith) ∙ s .rest j (omega arith);
+    }
+
+-- ---- the outputs that are picked, with their cost and net
+
+module _ (pick : Offer → ℕ) (p : Problem) where
+  abbrev left : ℕ → List Offer
+  left i = drop i (p .offers)
+
+  abbrev picked : List Offer → List ℕ
+  picked fs = map pick fs
+
+  abbrev units : List Offer → List Unit
+  units fs = map (λ f. f .unit) fs
+
+  pub record Allocating (a : code-allocation.Allocation) (i : ℕ) : Type 0 where
+    pub outputs : take i (a .outputs) ++ picked (left i) ≡ picked (p .offers)
+    pub cost : a .cost + totalCost (units (left i)) (picked (left i)) ≡ totalCost (unitsOf p) (picked (p .offers))
+    pub net : a .net + totalNet (units (left i)) (picked (left i)) ≡ totalNet (unitsOf p) (picked (p .offers))
+
+  -- the output of unit i
+  pub record Picks (i : ℕ) (c : code-choice.Choice) : Type 0 where
+    pub output : c .output ≡ pick (getD (p .offers) i nothingOffered)
+    pub cost : c .cost ≡ cost (getD (p .offers) i nothingOffered .unit) (c .output)
+    pub net : c .net ≡ net (getD (p .offers) i nothingOffered .unit) (c .output)
+
+  pub allocating-starts : Allocating nothing 0
+  allocating-starts = record { outputs = refl; cost = omega arith; net = omega arith }
+
+  pub allocating-more : {a : code-allocation.Allocation} {i : ℕ} {c : code-choice.Choice} → Allocating a i → i < length (a .outputs) → i < length (p .offers) → Picks i c → Allocating (added a i c) (i + 1)
+  unfolding totalCost totalNet
+  allocating-more {a} {i} {c} s h l k =
+      let f = getD (p .offers) i nothingOffered in
+      let next : left i ≡ f ∷ left (i + 1) = drop-cons (p .offers) i nothingOffered l ∙ ap (λ (n : ℕ). f ∷ drop n (p .offers)) (sym (add-one i)) in
+      let placed : take (i + 1) (set (a .outputs) i (c .output)) ≡ take i (a .outputs) ++ (pick f ∷ []) =
+      rw (add-one i, k .output) (take-suc-set (a .outputs) i (pick f) h) in
+      record {
+        outputs = rw placed (append-assoc (take i (a .outputs)) (pick f ∷ []) (picked (left (i + 1))) ∙ (rw next at (s .outputs)));
+        cost = omega (arith, k .cost, ap (cost (f .unit)) (k .output), rw next at (s .cost));
+        net = omega (arith, k .net, ap (net (f .unit)) (k .output), rw next at (s .net));
+      }
+
+  pub allocating-ends : {a : code-allocation.Allocation} {i : ℕ} → Allocating a i → i ≡ length (p .offers) → HoldsOutputs p (picked (p .offers)) a
+  unfolding totalCost totalNet
+  allocating-ends {a} {i} s e =
+      let none : left i ≡ [] = drop-of-length-le (p .offers) {i = i} (omega arith) in
+      record {
+        outputs = rw (← e) (sym (append-nil (take i (a .outputs))) ∙ (rw none at (s .outputs)));
+        cost = omega (arith, rw none at (s .cost));
+        net = omega (arith, rw none at (s .net));
+      }
+
+-- a choice of the struct is one of the offer
+pub picks : (pick : Offer → ℕ) {q : code-problem.Problem} {p : Problem} {m i : ℕ} {c : code-choice.Choice} → HoldsProblem q p → i < q .count → Prices m (offerAt q i) c → ((f : Offer) → Holds (offerAt q i) f → c .output ≡ pick f) → Picks pick p i c
+picks pick {i = i} {c} h l k held =
+    record {
+      output = held _ (h .offers i l);
+      cost = k .cost ∙ sym (cost-held (h .offers i l) (c .output));
+      net = k .net ∙ sym (net-held (h .offers i l) (c .output));
+    }

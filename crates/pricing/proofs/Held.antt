@@ -1,0 +1,20 @@
+-- An offer's costs are those of the struct that stands for it.
+use mathlib.Core.Path.{_≡_}
+use Prim.Native.Nat.{ℕ}
+use Rattle.rules.specs.Unit.{Offer, cost, net}
+use Rattle.rules.specs.Choice.{pricedCost}
+use Rattle.pricing.specs.declared.Offer as code-offer
+use Rattle.pricing.specs.Held.{unitOf, Holds}
+
+module _ {o : code-offer.Offer} {f : Offer} (h : Holds o f) (p : ℕ) where
+  pub cost-held : cost (f .unit) p ≡ cost (unitOf o) p
+  unfolding cost
+  cost-held = rw (h .c0, h .c1, h .c2)
+
+  pub net-held : net (f .unit) p ≡ net (unitOf o) p
+  unfolding net
+  net-held = rw (h .b)
+
+  pub priced-held : (m : ℕ) → pricedCost m (f .unit) p ≡ pricedCost m (unitOf o) p
+  unfolding pricedCost
+  priced-held m = rw (cost-held, net-held)

@@ -1,0 +1,51 @@
+-- The range of all that is computed of one output, for `omega`, which bounds no product itself: `omega (arith, range (c .pre))`.
+use mathlib.Core.Path.{refl}
+use Prim.Native.Nat.{ℕ, _*_, _-_, _≤_}
+use native.Mathlib.Nat.{mul-le-mul}
+use native.Mathlib.Omega.{arith}
+use Rattle.rules.specs.Layout.{zones}
+use Rattle.rules.specs.Refusal.{zonesAscend}
+use Rattle.rules.specs.Unit.{net}
+use Rattle.rules.proofs.Sound.{Sound}
+use Rattle.rules.proofs.Quantities.{Products, products, priced-range}
+use Rattle.pricing.specs.declared.Offer.{Offer}
+use Rattle.pricing.specs.Held.{unitOf, Coefficients, Priceable}
+
+-- the unit with the coefficients of an offer is a sound one
+pub sound : {o : Offer} → Coefficients o → Sound (unitOf o)
+unfolding zones zonesAscend
+sound s =
+    record {
+      zoneCount = omega arith;
+      unused = λ k h. refl;
+      c0 = s .c0;
+      c1 = s .c1;
+      c2 = s .c2;
+      b = s .b;
+      least = omega arith;
+      range = omega arith;
+      greatest = omega arith;
+      ascend = refl;
+      previous = omega arith;
+      up = omega arith;
+      down = omega arith;
+      mark = omega arith;
+    }
+
+pub record Range (o : Offer) (m p : ℕ) : Type 0 where
+  pub asked : Priceable o m p
+  pub products : Products (unitOf o) p
+  pub square : o .c2 * p ≤ 10000000
+  pub loss : o .b * p ≤ 50000000
+  pub net : m * (100000000 * p - o .b * p * p) ≤ 65536000000000000
+
+pub range : {o : Offer} {m p : ℕ} → Priceable o m p → Range o m p
+unfolding net
+range {o} {m} {p} a =
+    record {
+      asked = a;
+      products = products (sound (a .coefficients)) (a .output);
+      square = mul-le-mul (a .coefficients .c2) (a .output);
+      loss = mul-le-mul (a .coefficients .b) (a .output);
+      net = priced-range (sound (a .coefficients)) (a .output) (a .multiplier);
+    }

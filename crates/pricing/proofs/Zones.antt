@@ -1,0 +1,70 @@
+-- Outputs against the zones of a unit, which ascend: below a zone, strictly inside it, and past it.
+use mathlib.Core.Path.{_≡_, refl, sym, _∙_}
+use mathlib.Core.Bool.{Bool, true, false, not, _&&_, true≢false}
+use mathlib.Core.List.{List, [], _∷_}
+use Prim.Native.Nat.{ℕ, _+_, _*_, _≤_, _<_}
+use native.Mathlib.Decide.{decLt}
+use native.Mathlib.Numerals.{add-one}
+use native.Mathlib.Omega.{arith}
+use lib.Dec.{ltb}
+use lib.ListN.{getD, drop}
+use lib.Seq.{drop-cons}
+use borrow.Author.Tests.{lt-ltb, le-ltb}
+use Rattle.rules.specs.Layout.{Unit, Zone, zones}
+use Rattle.rules.specs.Refusal.{zonesAscend}
+use Rattle.rules.specs.Unit.{strictlyInside}
+use Rattle.rules.proofs.Lists.{Every, getD-each, length-each, accepts}
+use Rattle.rules.proofs.Sound.{Between as ZoneBetween, ascending}
+use Rattle.pricing.specs.Regions.{low, high}
+use Rattle.pricing.specs.Dividing.{outside}
+
+-- ---- a zone
+
+-- at most the lower edge, and at least the upper edge: outside
+not-inside-below : (p : ℕ) (z : Zone) → p ≤ z .lower → not (strictlyInside p z) ≡ true
+not-inside-below p z h = rw (le-ltb (z .lower) p h)
+
+not-inside-above : (p : ℕ) (z : Zone) → z .upper ≤ p → not (strictlyInside p z) ≡ true
+not-inside-above p z h = by (ltb (z .lower) p)
+  where
+    by : (t : Bool) → not (t && ltb p (z .upper)) ≡ true
+    by true = rw (le-ltb p (z .upper) h)
+    by false = refl
+
+inside-zone : (p : ℕ) (z : Zone) → z .lower < p → p < z .upper → not (strictlyInside p z) ≡ false
+inside-zone p z h k = rw (lt-ltb (z .lower) p h, lt-ltb p (z .upper) k)
+
+-- below all of some zones
+outside-below : (p low high : ℕ) (zs : List Zone) → Every (λ z. ZoneBetween low z high) zs → p ≤ low → outside p zs ≡ true
+outside-below p low high [] e h = refl
+outside-below p low high (z ∷ zs) e h = rw (not-inside-below p z (omega (arith, e .0 .least))) (outside-below p low high zs (e .1) h)
+
+-- a zone below others
+pub zone-parts : (from top : ℕ) (z : Zone) (zs : List Zone) → zonesAscend from (z ∷ zs) top ≡ true → (from < z .lower) × (z .lower < z .upper) × (zonesAscend (z .upper) zs top ≡ true)
+unfolding zonesAscend
+zone-parts from top z zs a = let ((first, order), later) = simp accepts at a in (first, order, later)
+
+pub before-zone : (p from top : ℕ) (z : Zone) (zs : List Zone) → zonesAscend from (z ∷ zs) top ≡ true → p ≤ z .lower → outside p (z ∷ zs) ≡ true
+before-zone p from top z zs a h =
+    let parts = zone-parts from top z zs a in
+    rw (not-inside-below p z h) (outside-below p (z .upper) top zs (ascending (z .upper) top zs (parts .2) .1) (omega (arith, parts .1)))
+
+pub after-zone : (p : ℕ) (z : Zone) (zs : List Zone) → z .upper ≤ p → outside p (z ∷ zs) ≡ outside p zs
+after-zone p z zs h = rw (not-inside-above p z h)
+
+pub within-zone : (p : ℕ) (z : Zone) (zs : List Zone) → p < z .upper → outside p (z ∷ zs) ≡ true → p ≤ z .lower
+within-zone p z zs h e = by (decLt (z .lower) p)
+  where
+    by : Dec (z .lower < p) → p ≤ z .lower
+    by (yes k) = absurd (true≢false (sym e ∙ rw (inside-zone p z k h)))
+    by (no n) = omega arith
+
+-- zone k of a unit, and those behind it
+abbrev pub zoneAt : Unit → ℕ → Zone
+zoneAt u k = record { lower = getD (u .edges) (2 * k) 0; upper = getD (u .edges) (2 * k + 1) 0 }
+
+pub next-zone : (u : Unit) (k : ℕ) → k < u .zoneCount → drop k (zones u) ≡ zoneAt u k ∷ drop (k + 1) (zones u)
+unfolding zones
+next-zone u k h =
+    drop-cons (zones u) k (zoneAt u k) (omega (arith, length-each (u .zoneCount) (zoneAt u)))
+    ∙ rw (getD-each (u .zoneCount) (zoneAt u) k (zoneAt u k) h, add-one k)

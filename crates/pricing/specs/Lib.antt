@@ -1,0 +1,7 @@
+pub mod Turn
+pub mod Regions
+pub mod Held
+pub mod Choosing
+pub mod Totals
+pub mod Dividing
+pub mod Priced
