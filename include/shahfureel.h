@@ -46,9 +46,9 @@ enum shahfureel_refusal {
     SHAHFUREEL_CONTENTS_INVALID = 6,         /* offsets, lengths or the file's end do not fit: file cut or padded? */
     SHAHFUREEL_ZONE_COUNT_INVALID = 7,       /* more than 4 zones, or not as many as the body or the row has */
     SHAHFUREEL_COEFFICIENT_OUT_OF_RANGE = 8, /* c0, c1, c2 or b of a unit is above its limit */
-    SHAHFUREEL_LIMITS_INVALID = 9,           /* least, greatest and zone edges must rise strictly, up to 10,000 */
+    SHAHFUREEL_LIMITS_INVALID = 9,           /* 1 <= least, then zone edges, then greatest <= 10,000: strictly rising */
     SHAHFUREEL_RAMP_OR_MARK_OUT_OF_RANGE = 10, /* previous, up or down above 10,000, or a mark that is not 0 or 1 */
-    SHAHFUREEL_NO_ALLOCATION = 11,           /* no permitted outputs cover the demand after losses: shed load */
+    SHAHFUREEL_NO_ALLOCATION = 11,           /* nothing permitted covers the demand after losses, or a must-run unit is stuck */
     SHAHFUREEL_ROWS_INVALID = 12,            /* the list of rows is empty, above 608, or not 19 numbers to a unit */
     SHAHFUREEL_FILE_BUFFER_TOO_SHORT = 13,   /* lend a file buffer of 1,480 bytes */
     SHAHFUREEL_MULTIPLIER_OUT_OF_RANGE = 14  /* the multiplier is above 65,536 */
@@ -60,8 +60,10 @@ enum shahfureel_refusal {
  * in the reply are permitted and cover the demand after losses; no permitted outputs that cover it cost less than cost - gap. */
 uint32_t shahfureel_dispatch(const uint8_t *file, size_t file_length, uint8_t *reply, size_t reply_length);
 
-/* Prices a case file at a multiplier. Returns 0 and writes answers[0], the dual value, and answers[1], 1 where the units'
- * choices cover the demand and else 0; or returns a refusal. */
+/* Prices a case file at a multiplier, a price of energy in hundredths of the currency per MWh. Returns 0 and writes answers[0],
+ * the dual value, and answers[1], 1 where the units' choices at that price cover the demand and else 0; or returns a refusal.
+ * The dual value, divided by 100,000 and rounded up, is a lower bound on the cost of whatever covers the demand, in millionths
+ * of the currency per hour. It may be negative. */
 uint32_t shahfureel_price(const uint8_t *file, size_t file_length, uint32_t multiplier, int64_t *answers,
                           size_t answers_length);
 

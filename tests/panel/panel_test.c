@@ -84,7 +84,7 @@ static void dispatch_refusals(void)
         {37, 0, SHAHFUREEL_ZONE_COUNT_INVALID, "no zone in a body of 30 bytes is 7"},
         {20, 4, SHAHFUREEL_COEFFICIENT_OUT_OF_RANGE, "c2 above 1,000 is 8"},
         {39, 2, SHAHFUREEL_LIMITS_INVALID, "a lower edge at the least output is 9"},
-        {38, 4, SHAHFUREEL_LIMITS_INVALID, "an edge read low byte first is 9"},
+        {38, 4, SHAHFUREEL_LIMITS_INVALID, "a lower edge of 1,028, above the greatest output, is 9"},
         {35, 2, SHAHFUREEL_RAMP_OR_MARK_OUT_OF_RANGE, "a mark of 2 is 10"},
         {7, 11, SHAHFUREEL_NO_ALLOCATION, "a demand of 11 is 11"},
     };

@@ -1,8 +1,7 @@
 // The reply's bytes: five numbers, and from byte 28 the outputs, written into the lent tail.
 ghost use mathlib.Core.Path.{_≡_};
-ghost use mathlib.Core.List.{_++_};
 ghost use Prim.Native.Nat.{ℕ, _+_, _*_, _≤_};
-ghost use lib.ListN.{length, take, drop};
+ghost use lib.ListN.{length, take};
 ghost use Rattle.fields.specs.Field.{bytesOfEach};
 ghost use Rattle.rules.specs.Calls.{over, replyBytes};
 ghost use Rattle.bisection.specs.Held.{replyHeld};
@@ -19,7 +18,7 @@ pub struct Reply {
 // Writes the first `n` outputs, 16 bits each, from the start of `s` on.
 fn write_outputs(s: &mut [u8], outputs: [u16; 32], n: usize)
     requires { ⌜ (n ≤ 32) × (2 * n ≤ length (now s)) ⌝ }
-    ensures { λ _. ⌜ now (s .exit) ≡ bytesOfEach 2 (take n outputs) ++ drop (2 * n) (now (s .entry)) ⌝ }
+    ensures { λ _. ⌜ now (s .exit) ≡ over (bytesOfEach 2 (take n outputs)) (now (s .entry)) ⌝ }
 {
     let mut i = 0;
     while i < n {

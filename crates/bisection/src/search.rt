@@ -22,7 +22,7 @@ fn greater(a: i64, b: i64) -> i64
     if a <= b { b } else { a }
 }
 
-// Step 4: halves from 0 and 65,536, where `start` is what the evaluations of these found.
+// Step 4: halves from 0 and 65,536, where `start` is what the evaluations of these found. The ends are `low` and `low` + `width`.
 fn halve(q: Problem, start: Found) -> Found
     requires { ⌜ Started q start ⌝ }
     ensures { λ r. ⌜ Halves q start r ⌝ }

@@ -14,6 +14,7 @@ use Rattle.rules.specs.Layout.{Unit, bodyOfUnit, contentsFrom, bodiesOf, fileOf
 use Rattle.rules.specs.Calls.{over}
 use Rattle.rules.proofs.Lists.{length-each, Every}
 use Rattle.rules.proofs.Sound.{Sound, edge-small}
+use Rattle.rules.proofs.Pieces.{length-each-bytes}
 use Rattle.casefile.specs.Held.{unitInRow, bodiesLength, RowsSound, WordsFit}
 use Rattle.casefile.proofs.Front.{Front, lent, givenBack, front-none, front-made, front-field, front-tail, front-over}
 use Rattle.casefile.proofs.Lengths.{sizeOf, total, total-more, few-zones, length-row-edges, contents-more, bodies-more}
@@ -37,11 +38,6 @@ word-next words k h p e =
     let n : 2 * (k + 1) ≡ 2 * k + 2 = omega arith in
     let more : take (k + 1) words ≡ take k words ++ (getD words k 0 ∷ []) = ap (λ (i : ℕ). take i words) (add-one k) ∙ take-suc words k 0 h in
     rw (n, more, each-snoc 2 (take k words) (getD words k 0)) (front-field p 2 (getD words k 0) e)
-
-pub length-words : (words : List ℕ) → length (bytesOfEach 2 words) ≡ 2 * length words
-unfolding bytesOfEach
-length-words [] = refl
-length-words (x ∷ xs) = rw (length-append (bytes 2 x) (bytesOfEach 2 xs), length-bytes 2 x, length-words xs) (omega arith)
 
 -- ---- a body: two numbers of 32 bits, nine words, the edges in use
 
@@ -89,7 +85,7 @@ body-parts u = simp (append-assoc, append-nil)
 module _ (u : Unit) (s₀ s₁ s₂ t : List ℕ) (e₁ : s₁ ≡ written s₀ 0 4 (u .c0)) (e₂ : s₂ ≡ written s₁ 4 4 (u .c1)) (e₃ : t ≡ over (bytesOfEach 2 (wordsOf u)) (lent 8 s₂)) where
   pub numbers-front : Front s₀ (bytes 4 (u .c0) ++ bytes 4 (u .c1) ++ bytesOfEach 2 (wordsOf u)) (givenBack 8 s₂ t) 26
   numbers-front =
-      front-tail (front-field (front-field (front-none s₀) 4 (u .c0) e₁) 4 (u .c1) e₂) t (bytesOfEach 2 (wordsOf u)) 18 (length-words (wordsOf u)) e₃
+      front-tail (front-field (front-field (front-none s₀) 4 (u .c0) e₁) 4 (u .c1) e₂) t (bytesOfEach 2 (wordsOf u)) 18 (length-each-bytes 2 (wordsOf u)) e₃
 
   pub body-whole : (r : List ℕ) → r ≡ over (bytesOfEach 2 (take (2 * u .zoneCount) (u .edges))) (lent 26 (givenBack 8 s₂ t)) → givenBack 26 (givenBack 8 s₂ t) r ≡ over (bodyOfUnit u) s₀
   body-whole r e =
@@ -100,8 +96,8 @@ module _ (u : Unit) (s₀ s₁ s₂ t : List ℕ) (e₁ : s₁ ≡ written s₀ 
 
 length-body : (u : Unit) → 2 * u .zoneCount ≤ length (u .edges) → length (bodyOfUnit u) ≡ sizeOf u
 length-body u h =
-    let words : length (bytesOfEach 2 (wordsOf u)) ≡ 18 = length-words (wordsOf u) in
-    let edges : length (bytesOfEach 2 (take (2 * u .zoneCount) (u .edges))) ≡ 4 * u .zoneCount = length-words (take (2 * u .zoneCount) (u .edges)) ∙ rw (length-take-le (2 * u .zoneCount) (u .edges) h) (omega arith) in
+    let words : length (bytesOfEach 2 (wordsOf u)) ≡ 18 = length-each-bytes 2 (wordsOf u) in
+    let edges : length (bytesOfEach 2 (take (2 * u .zoneCount) (u .edges))) ≡ 4 * u .zoneCount = length-each-bytes 2 (take (2 * u .zoneCount) (u .edges)) ∙ rw (length-take-le (2 * u .zoneCount) (u .edges) h) (omega arith) in
     sym (ap length (body-parts u)) ∙ simp (length-append, length-bytes, words, edges) (omega arith)
 
 -- row i's body, written by a callee that was lent the part from `at` on

@@ -1,4 +1,4 @@
--- What the code's values are of document 01: the unit that a struct `Unit` holds, and when a body or a head may be read.
+-- A unit of document 01 as the code has it: in a struct, in a file, in rows; and what the code requires of a head, a body, rows and words.
 use Prim.Native.Nat.{ℕ, _+_, _*_, _≤_, _<_}
 use mathlib.Core.Path.{_≡_}
 use mathlib.Core.List.{List, map}
@@ -10,6 +10,7 @@ use Rattle.rules.specs.Refusal.{unitVerdict}
 use Rattle.rules.specs.declared.Verdict.the-variants.{Accepted}
 use Rattle.casefile.specs.declared.Unit as code
 
+-- The unit that the code's struct holds, number by number.
 abbrev pub unitHeld : code.Unit → Unit
 unitHeld u =
     record {

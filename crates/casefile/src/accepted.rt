@@ -9,6 +9,7 @@ use crate::checking::body_of;
 use crate::reading::read_body;
 use rules::Verdict;
 
+// The demand, in steps.
 pub fn demand(file: &[u8]) -> u32
     requires { ⌜ fileVerdict (now file) ≡ Verdict.Accepted ⌝ }
     ensures { λ r. ⌜ r ≡ demand (now (file .entry)) ⌝ }
@@ -16,6 +17,7 @@ pub fn demand(file: &[u8]) -> u32
     fields::read_u32(file, 4)
 }
 
+// How many units there are.
 pub fn count(file: &[u8]) -> usize
     requires { ⌜ fileVerdict (now file) ≡ Verdict.Accepted ⌝ }
     ensures { λ r. ⌜ r ≡ count (now (file .entry)) ⌝ }
@@ -23,6 +25,7 @@ pub fn count(file: &[u8]) -> usize
     fields::read_u16(file, 2) as usize
 }
 
+// Unit `i`, counted from 0.
 pub fn read_unit(file: &[u8], i: usize) -> Unit
     requires { ⌜ fileVerdict (now file) ≡ Verdict.Accepted ⌝ }
     requires { ⌜ i < count (now file) ⌝ }

@@ -1,11 +1,11 @@
 // Checking a case file: head, contents, then body by body. The first refusal is the answer.
 ghost use mathlib.Core.Path.{_≡_};
 ghost use mathlib.Core.Bool.{not, _||_};
-ghost use Prim.Native.Nat.{_+_, _*_, _≤_, _<_};
+ghost use Prim.Native.Nat.{_+_, _*_, _≤_};
 ghost use lib.Dec.{ltb, eqb};
 ghost use lib.ListN.{length};
 ghost use Rattle.rules.specs.Lists.{each, all};
-ghost use Rattle.rules.specs.Layout.{count, body};
+ghost use Rattle.rules.specs.Layout.{body};
 ghost use Rattle.rules.specs.Refusal.{inOrder, headVerdict, start, legalSize, entryFits, contentsVerdict, bodyVerdict, fileVerdict};
 ghost use Rattle.casefile.specs.Held.{HeadRead, BodyInside};
 use crate::reading::read_body;
@@ -13,6 +13,7 @@ use crate::units::check_unit;
 use rules::Refusal;
 use rules::Verdict;
 
+// A body: its zone count against its length, then its unit.
 pub fn check_body(body: &[u8]) -> Verdict
     requires { ⌜ 26 ≤ length (now body) ⌝ }
     ensures { λ r. ⌜ r ≡ bodyVerdict (now (body .entry)) ⌝ }
@@ -24,6 +25,7 @@ pub fn check_body(body: &[u8]) -> Verdict
     check_unit(read_body(body))
 }
 
+// The head, read only once the file is long enough for one.
 pub fn check_head(file: &[u8]) -> Verdict
     ensures { λ r. ⌜ r ≡ headVerdict (now (file .entry)) ⌝ }
 {
@@ -43,6 +45,7 @@ pub fn check_head(file: &[u8]) -> Verdict
     Verdict::Accepted
 }
 
+// Whether a body may have this length.
 fn legal_size(size: u16) -> bool
     ensures { λ r. ⌜ r ≡ legalSize size ⌝ }
 {
@@ -52,6 +55,7 @@ fn legal_size(size: u16) -> bool
     }
 }
 
+// Whether an entry, or the end of the last body, is not where the one before it says. `at` is where the next body starts.
 fn contents_invalid(file: &[u8], n: usize) -> bool
     requires { ⌜ HeadRead (now file) n ⌝ }
     ensures { λ r. ⌜ r ≡ (ltb (length (now (file .entry))) (8 + 4 * n) || not (all (entryFits (now (file .entry))) (each n (λ i. i))) || not (eqb (start (now (file .entry)) n) (length (now (file .entry))))) ⌝ }
@@ -76,6 +80,7 @@ fn contents_invalid(file: &[u8], n: usize) -> bool
     at != file.len()
 }
 
+// The contents of a file whose head names `n` units.
 pub fn check_contents(file: &[u8], n: usize) -> Verdict
     requires { ⌜ HeadRead (now file) n ⌝ }
     ensures { λ r. ⌜ r ≡ contentsVerdict (now (file .entry)) ⌝ }
@@ -96,6 +101,7 @@ pub fn body_of(file: &[u8], i: usize) -> &[u8]
     &file[offset..end]
 }
 
+// The bodies, in order, of a file whose contents are accepted.
 fn check_bodies(file: &[u8], n: usize) -> Verdict
     requires { ⌜ HeadRead (now file) n ⌝ }
     requires { ⌜ contentsVerdict (now file) ≡ Verdict.Accepted ⌝ }

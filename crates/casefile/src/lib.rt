@@ -11,13 +11,7 @@ pub use accepted::count;
 pub use accepted::demand;
 pub use accepted::read_unit;
 pub use checking::check;
-pub use checking::check_body;
-pub use checking::check_contents;
-pub use checking::check_head;
 pub use packing::pack;
-pub use reading::read_body;
-pub use reading::read_row;
-pub use units::check_unit;
 pub use unpacking::unpack;
 
 // A unit as the nineteen numbers of a row.

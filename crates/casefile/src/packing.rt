@@ -18,7 +18,7 @@ use rules::Packed;
 use rules::Refusal;
 use rules::Verdict;
 
-// Whether a list of so many numbers is no list of 1 to 32 rows.
+// Whether `length` numbers are no list of 1 to 32 rows.
 fn rows_invalid(length: usize) -> bool
     ensures { λ r. ⌜ r ≡ (eqb length 0 || not (eqb (length % 19) 0) || ltb 608 length) ⌝ }
 {
@@ -31,6 +31,7 @@ fn rows_invalid(length: usize) -> bool
     length > 608
 }
 
+// The first refusal of `n` rows, in order.
 fn check_rows(rows: &[u32], n: usize) -> Verdict
     requires { ⌜ 19 * n ≤ length (now rows) ⌝ }
     ensures { λ r. ⌜ r ≡ inOrder (each n (λ i. unitVerdict (unitInRow (now (rows .entry)) i))) ⌝ }
@@ -69,6 +70,7 @@ fn file_length(rows: &[u32], n: usize) -> usize
     length
 }
 
+// Writes the head to the start of `file`.
 fn write_head(file: &mut [u8], n: usize, demand: u32)
     requires { ⌜ (n ≤ 32) × (8 ≤ length (now file)) ⌝ }
     ensures { λ _. ⌜ now (file .exit) ≡ over (bytes 2 1 ++ bytes 2 n ++ bytes 4 demand) (now (file .entry)) ⌝ }
@@ -163,6 +165,7 @@ fn write_file(file: &mut [u8], demand: u32, rows: &[u32], n: usize)
     write_bodies(&mut file[bodies..], rows, n);
 }
 
+// The length of the file of a demand and rows, which it writes to the start of `file`.
 pub fn pack(demand: u32, rows: &[u32], file: &mut [u8]) -> Packed
     ensures { λ r. ⌜ packed demand (now (rows .entry)) (now (file .entry)) ≡ record { answer = r; file = now (file .exit) } ⌝ }
 {

@@ -26,6 +26,7 @@ fn zero_from(edges: [u32; 8], first: usize) -> bool
     true
 }
 
+// Refusal 7: too many zones, or an unused edge that is not zero.
 fn zone_count_invalid(u: Unit) -> bool
     ensures { λ r. ⌜ r ≡ (ltb 4 (unitHeld u .zoneCount) || not (unusedEdgesZero (unitHeld u))) ⌝ }
 {
@@ -40,6 +41,7 @@ fn zone_count_invalid(u: Unit) -> bool
     !zero_from(edges, 2 * zone_count as usize)
 }
 
+// Refusal 8: a coefficient above its limit.
 fn coefficient_out_of_range(u: Unit) -> bool
     ensures { λ r. ⌜ r ≡ (ltb 1000000000 (u .c0) || ltb 10000000 (u .c1) || ltb 1000 (u .c2) || ltb 5000 (u .b)) ⌝ }
 {
@@ -86,6 +88,7 @@ fn zones_ascend(u: Unit) -> bool
     below < greatest
 }
 
+// Refusal 9: least, greatest or an edge out of range or order.
 fn limits_invalid(u: Unit) -> bool
     requires { ⌜ unitHeld u .zoneCount ≤ 4 ⌝ }
     ensures { λ r. ⌜ r ≡ not (leb 1 (u .least) && ltb (u .least) (u .greatest) && leb (u .greatest) 10000 && zonesAscend (u .least) (zones (unitHeld u)) (u .greatest)) ⌝ }
@@ -107,6 +110,7 @@ fn limits_invalid(u: Unit) -> bool
     !zones_ascend(u)
 }
 
+// Refusal 10: previous output, up step, down step or mark out of range.
 fn ramp_or_mark_out_of_range(u: Unit) -> bool
     ensures { λ r. ⌜ r ≡ (ltb 10000 (u .previous) || ltb 10000 (u .up) || ltb 10000 (u .down) || ltb 1 (u .mark)) ⌝ }
 {

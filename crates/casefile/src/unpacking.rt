@@ -20,32 +20,19 @@ use rules::Verdict;
 fn row_of(u: Unit) -> [u32; 19]
     ensures { λ r. ⌜ r ≡ rowOfUnit (unitHeld u) ⌝ }
 {
-    let Unit {
-        c0,
-        c1,
-        c2,
-        b,
-        least,
-        greatest,
-        previous,
-        up,
-        down,
-        mark,
-        zone_count,
-        edges,
-    } = u;
+    let edges = u.edges;
     [
-        c0,
-        c1,
-        c2,
-        b,
-        least,
-        greatest,
-        previous,
-        up,
-        down,
-        mark,
-        zone_count,
+        u.c0,
+        u.c1,
+        u.c2,
+        u.b,
+        u.least,
+        u.greatest,
+        u.previous,
+        u.up,
+        u.down,
+        u.mark,
+        u.zone_count,
         edges[0],
         edges[1],
         edges[2],
@@ -84,6 +71,7 @@ fn write_rows(file: &[u8], rows: &mut [u32], n: usize)
     }
 }
 
+// The demand and the unit count of a file, and its rows at the start of `rows`.
 pub fn unpack(file: &[u8], rows: &mut [u32]) -> Unpacked
     ensures { λ r. ⌜ unpacked (now (file .entry)) (now (rows .entry)) ≡ record { answer = r; rows = now (rows .exit) } ⌝ }
 {

@@ -1,2 +1,1 @@
 pub mod Width
-pub mod Buffer

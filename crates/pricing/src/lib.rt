@@ -7,12 +7,10 @@ mod units;
 
 pub use files::price;
 pub use files::problem_in;
-pub use offering::regions;
 pub use totals::evaluate;
 pub use totals::floor_of;
 pub use totals::greatest_outputs;
 pub use totals::solvable;
-pub use units::choose;
 
 // A unit's coefficients, and its permitted outputs as intervals that ascend: 0..0 if it may stand, then those that zones and
 // ramp window leave.

@@ -1,22 +1,25 @@
--- `bisection::reply::write_outputs` meets its contract: the first i outputs are written (`WrittenEach`).
+-- `bisection::reply::write_outputs` meets its contract: the first i outputs are written (`Front`).
 use denote.Ref.{now}
-use Rattle.fields.proofs.Buffer.{WrittenEach, written-each-starts, written-each-more}
+use Rattle.fields.specs.Field.{bytesOfEach}
+use Rattle.casefile.proofs.Front.{Front, front-none, front-over}
+use Rattle.casefile.proofs.Written.{word-next}
 use borrow.Author.Needs.{needs}
 use native.Mathlib.Omega.{arith}
-use Prim.Native.Nat.{_≤_, _-_}
-use lib.ListN.{length}
+use Prim.Native.Nat.{_≤_, _-_, _*_}
+use lib.ListN.{length, take}
 use mathlib.Core.Path.{_≡_, refl, _∙_}
 use Rattle.bisection.proofs.reply.write_outputs.Statement.{statement}
 use Rattle.bisection.proofs.reply.write_outputs.Tie as tie
 
 abbrev Inv-loop : tie.InvT-loop
-Inv-loop s₀ n outputs i₀ s i = (i ≤ n) × (length s ≡ length s₀) × WrittenEach 2 s₀ outputs s i
+Inv-loop s₀ n outputs i₀ s i = (i ≤ n) × (length s ≡ length s₀) × Front s₀ (bytesOfEach 2 (take i outputs)) s (2 * i)
 
 abbrev μ-loop : tie.MeasureT-loop
 μ-loop s₀ n outputs i₀ s i = n - i
 
 loop-holds : tie.Need-loop-holds Inv-loop μ-loop
-loop-holds c = let a = c .before .args in (omega arith, refl, written-each-starts 2 (now (a .s)) (a .t2))
+unfolding bytesOfEach
+loop-holds c = let a = c .before .args in (omega arith, refl, front-none (now (a .s)))
 
 mul-write-u16 : tie.Need-mul-write-u16 Inv-loop μ-loop
 mul-write-u16 c = omega arith
@@ -42,7 +45,7 @@ loop-again c =
     let a = c .before .before .before .before .before .before .before .args in
     let n : length (a .t2) ≡ 32 = search needs in
     let w = c .before .before .write-u16 in
-    (omega arith, w .kept .0 ∙ l .inv .1, w .ensures ∙ written-each-more 2 (now (a .s)) (a .t2) (l .s) (l .i) (omega arith) (l .inv .2))
+    (omega arith, w .kept .0 ∙ l .inv .1, word-next (a .t2) (l .i) (omega arith) (l .inv .2) (w .ensures))
 
 same-length : tie.Need-same-length Inv-loop μ-loop
 same-length c = omega arith
@@ -52,7 +55,7 @@ returns c =
     let l = c .before .loop in
     let a = c .before .before .before .args in
     let e : l .i ≡ a .n = omega arith in
-    rw e at (l .inv .2)
+    front-over (rw e at (l .inv .2))
 
 pub write-outputs-spec : {M : Type 1} → statement M
 write-outputs-spec =

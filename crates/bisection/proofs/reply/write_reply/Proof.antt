@@ -63,7 +63,7 @@ returns c =
     let long : length (a .r .outputs) ≡ 32 = outputs-long (c₁ .before .before) in
     let few : a .n ≤ length (a .r .outputs) = omega (arith, c₁ .before .before .before .before .pre .0) in (
       sym (reply-length (now (a .s)) (a .n) (a .r) few),
-      reply-written (now (a .s)) (a .n) (a .r) few (c₁ .write-u16 .last .0) (c₂ .write-u162 .last .0) (c₃ .write-u64 .last .0) (c₄ .write-u642 .last .0) (c₅ .write-u643 .last .0) (c₆ .write-outputs .last .0)
+      reply-written (now (a .s)) (a .n) (a .r) few
           (c₁ .write-u16 .ensures) (c₂ .write-u162 .ensures) (c₃ .write-u64 .ensures) (c₄ .write-u642 .ensures) (c₅ .write-u643 .ensures) (c₆ .write-outputs .ensures),
     )
 
