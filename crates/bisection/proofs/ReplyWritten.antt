@@ -8,7 +8,7 @@ use Rattle.fields.specs.Field.{bytes, written, bytesOfEach}
 use Rattle.rules.specs.Calls.{over, replyBytes}
 use Rattle.rules.proofs.Pieces.{length-each-bytes}
 use Rattle.rules.proofs.ReplyBytes.{length-reply}
-use Rattle.casefile.proofs.Front.{Front, lent, givenBack, front-none, front-field, front-tail, front-over}
+use Rattle.rules.proofs.Front.{Front, lent, givenBack, front-none, front-field, front-tail, front-over}
 use Rattle.bisection.specs.Held.{replyHeld}
 use Rattle.bisection.specs.declared.reply.Reply as code
 

@@ -19,7 +19,7 @@ use Rattle.rules.specs.declared.Refusal.the-variants.{ContentsInvalid}
 use Rattle.rules.specs.declared.Verdict.the-variants.{Accepted}
 use Rattle.rules.proofs.Lists.{each-every, all-every, accepts}
 use Rattle.casefile.specs.Held.{BodyInside}
-use Rattle.casefile.proofs.Each.{rest-ends, rest-more}
+use Rattle.rules.proofs.Each.{rest-ends, rest-more}
 
 -- ---- legal lengths
 

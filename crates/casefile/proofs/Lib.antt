@@ -1,13 +1,4 @@
-pub mod Each
-pub mod Zones
-pub mod Edges
 pub mod Head
 pub mod Body
 pub mod Contents
 pub mod File
-pub mod Front
-pub mod Rows
-pub mod UnpackCases
-pub mod Lengths
-pub mod Written
-pub mod PackCases

@@ -3,11 +3,12 @@ ghost use mathlib.Core.Path.{_≡_};
 ghost use Prim.Native.Nat.{_<_};
 ghost use Rattle.rules.specs.Layout.{count, demand};
 ghost use Rattle.rules.specs.Refusal.{fileVerdict};
-ghost use Rattle.casefile.specs.Held.{unitHeld, unitAt};
-use crate::Unit;
+ghost use Rattle.unit.specs.Held.{unitHeld};
+ghost use Rattle.casefile.specs.Held.{unitAt};
 use crate::checking::body_of;
 use crate::reading::read_body;
 use rules::Verdict;
+use unit::Unit;
 
 // The demand, in steps.
 pub fn demand(file: &[u8]) -> u32

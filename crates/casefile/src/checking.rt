@@ -9,9 +9,9 @@ ghost use Rattle.rules.specs.Layout.{body};
 ghost use Rattle.rules.specs.Refusal.{inOrder, headVerdict, start, legalSize, entryFits, contentsVerdict, bodyVerdict, fileVerdict};
 ghost use Rattle.casefile.specs.Held.{HeadRead, BodyInside};
 use crate::reading::read_body;
-use crate::units::check_unit;
 use rules::Refusal;
 use rules::Verdict;
+use unit::check_unit;
 
 // A body: its zone count against its length, then its unit.
 pub fn check_body(body: &[u8]) -> Verdict

@@ -1,12 +1,13 @@
-// Reading a unit: from a body of a file, and from a planner's row.
+// Reading a unit from a body of a file.
 ghost use mathlib.Core.Path.{_≡_};
 ghost use Prim.Native.Nat.{_+_, _*_, _≤_, _<_};
-ghost use lib.ListN.{length, take, drop};
+ghost use lib.ListN.{length};
 ghost use Rattle.fields.specs.Field.{field};
 ghost use Rattle.rules.specs.Lists.{each};
-ghost use Rattle.rules.specs.Layout.{edgeOfBody, unitOfBody, unitOfRow, bodyLength};
-ghost use Rattle.casefile.specs.Held.{unitHeld, BodyFits};
-use crate::Unit;
+ghost use Rattle.rules.specs.Layout.{edgeOfBody, unitOfBody, bodyLength};
+ghost use Rattle.unit.specs.Held.{unitHeld};
+ghost use Rattle.casefile.specs.Held.{BodyFits};
+use unit::Unit;
 
 // Edge `k` of a body.
 fn read_edge(body: &[u8], k: usize) -> u32
@@ -61,50 +62,4 @@ pub fn read_body(body: &[u8]) -> Unit
         zone_count,
         edges,
     }
-}
-
-// The edges of a row.
-fn row_edges(row: &[u32]) -> [u32; 8]
-    requires { ⌜ length (now row) ≡ 19 ⌝ }
-    ensures { λ r. ⌜ r ≡ take 8 (drop 11 (now (row .entry))) ⌝ }
-{
-    let mut edges = [0u32; 8];
-    let mut k = 0;
-    while k < 8 {
-        edges[k] = row[11 + k];
-        k += 1;
-    }
-    edges
-}
-
-// The numbers of one row.
-fn row_numbers(row: &[u32]) -> Unit
-    requires { ⌜ length (now row) ≡ 19 ⌝ }
-    ensures { λ r. ⌜ unitHeld r ≡ unitOfRow (now (row .entry)) ⌝ }
-{
-    let edges = row_edges(row);
-    Unit {
-        c0: row[0],
-        c1: row[1],
-        c2: row[2],
-        b: row[3],
-        least: row[4],
-        greatest: row[5],
-        previous: row[6],
-        up: row[7],
-        down: row[8],
-        mark: row[9],
-        zone_count: row[10],
-        edges,
-    }
-}
-
-// Row `i`.
-pub fn read_row(rows: &[u32], i: usize) -> Unit
-    requires { ⌜ 19 * i + 19 ≤ length (now rows) ⌝ }
-    ensures { λ r. ⌜ unitHeld r ≡ unitOfRow (take 19 (drop (19 * i) (now (rows .entry)))) ⌝ }
-{
-    let at = 19 * i;
-    let end = at + 19;
-    row_numbers(&rows[at..end])
 }

@@ -52,7 +52,7 @@ pub extern "C" fn shahfureel_price(file: &[u8], m: u32, answers: &mut [i64]) -> 
 pub extern "C" fn shahfureel_pack(demand: u32, rows: &[u32], file: &mut [u8]) -> u32
     ensures { λ n. ⌜ panelPacked demand (now (rows .entry)) (now (file .entry)) ≡ record { number = n; file = now (file .exit) } ⌝ }
 {
-    let answer = casefile::pack(demand, rows, file);
+    let answer = packing::pack(demand, rows, file);
     match answer {
         Packed::Written(length) => length as u32,
         Packed::Refused(r) => rules::number(r),
@@ -66,7 +66,7 @@ pub extern "C" fn shahfureel_unpack(file: &[u8], rows: &mut [u32], answers: &mut
     if answers.len() < 2 {
         return rules::number(Refusal::BufferTooShort);
     }
-    let answer = casefile::unpack(file, rows);
+    let answer = unpacking::unpack(file, rows);
     match answer {
         Unpacked::Refused(r) => rules::number(r),
         Unpacked::Read { demand, count } => {

@@ -2,12 +2,12 @@
 ghost use mathlib.Core.Path.{_≡_};
 ghost use Prim.Native.Nat.{max, min};
 ghost use Rattle.rules.specs.Refusal.{unitVerdict};
-ghost use Rattle.casefile.specs.Held.{unitHeld};
+ghost use Rattle.unit.specs.Held.{unitHeld};
 ghost use Rattle.pricing.specs.Dividing.{Pushable, Pushed, Windowed, Dividing, Regions};
 use crate::Offer;
 use crate::Window;
-use casefile::Unit;
 use rules::Verdict;
+use unit::Unit;
 
 fn larger(a: u32, b: u32) -> u32
     ensures { λ r. ⌜ r ≡ max a b ⌝ }

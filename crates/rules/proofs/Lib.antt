@@ -1,8 +1,10 @@
 pub mod Cases
 pub mod Lists
+pub mod Each
 pub mod Integers
 pub mod Rounding
 pub mod Pieces
+pub mod Front
 pub mod Sound
 pub mod Rows
 pub mod Body

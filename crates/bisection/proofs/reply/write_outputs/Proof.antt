@@ -1,8 +1,7 @@
 -- `bisection::reply::write_outputs` meets its contract: the first i outputs are written (`Front`).
 use denote.Ref.{now}
 use Rattle.fields.specs.Field.{bytesOfEach}
-use Rattle.casefile.proofs.Front.{Front, front-none, front-over}
-use Rattle.casefile.proofs.Written.{word-next}
+use Rattle.rules.proofs.Front.{Front, front-none, front-each, front-over}
 use borrow.Author.Needs.{needs}
 use native.Mathlib.Omega.{arith}
 use Prim.Native.Nat.{_≤_, _-_, _*_}
@@ -45,7 +44,7 @@ loop-again c =
     let a = c .before .before .before .before .before .before .before .args in
     let n : length (a .t2) ≡ 32 = search needs in
     let w = c .before .before .write-u16 in
-    (omega arith, w .kept .0 ∙ l .inv .1, word-next (a .t2) (l .i) (omega arith) (l .inv .2) (w .ensures))
+    (omega arith, w .kept .0 ∙ l .inv .1, front-each 2 (a .t2) (l .i) (omega arith) (l .inv .2) (w .ensures))
 
 same-length : tie.Need-same-length Inv-loop μ-loop
 same-length c = omega arith

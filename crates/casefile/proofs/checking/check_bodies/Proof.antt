@@ -7,7 +7,7 @@ use borrow.Author.Needs.{needs}
 use denote.Ref.{now}
 use Rattle.rules.specs.Refusal.{bodyVerdict}
 use Rattle.casefile.proofs.Contents.{body-length, body-inside}
-use Rattle.casefile.proofs.Each.{Checked, checked-starts, checked-ends, checked-refused, checked-more}
+use Rattle.rules.proofs.Each.{Checked, checked-starts, checked-ends, checked-refused, checked-more}
 use Rattle.casefile.proofs.Body.{verdictAt}
 use Rattle.casefile.proofs.checking.check_bodies.Statement.{statement}
 use Rattle.casefile.proofs.checking.check_bodies.Tie as tie

@@ -4,7 +4,8 @@ use native.Mathlib.Omega.{arith}
 use mathlib.Core.Path.{_≡_, refl, ap, _∙_}
 use denote.Ref.{now}
 use Rattle.fields.specs.Field.{field}
-use Rattle.casefile.proofs.Edges.{first, first-more, body-edges}
+use Rattle.rules.specs.Layout.{edgeOfBody}
+use Rattle.unit.proofs.Edges.{first, first-more}
 use Rattle.casefile.proofs.reading.read_edges.Statement.{statement}
 use Rattle.casefile.proofs.reading.read_edges.Tie as tie
 
@@ -42,11 +43,12 @@ loop-again c =
     (omega arith, rw (l .inv .1, c .read-edge .ensures) (first-more f (l .k) (omega arith)))
 
 returns : tie.Need-returns Inv-loop μ-loop
+unfolding edgeOfBody
 returns c =
     let l = c .before .loop in
     let a = c .before .before .before .args in
     let e : l .k ≡ 2 * a .z = omega arith in
-    l .inv .1 ∙ ap (first (λ j. field (now (a .body)) (26 + 2 * j) 2)) e ∙ body-edges (now (a .body)) (a .z)
+    l .inv .1 ∙ ap (first (λ j. field (now (a .body)) (26 + 2 * j) 2)) e
 
 pub read-edges-spec : {M : Type 1} → statement M
 read-edges-spec =

@@ -1,6 +1,6 @@
 -- `pricing::offering::regions` meets its contract. The loop keeps what `Dividing` says: the permitted outputs below the end of the last zone.
 use Rattle.rules.proofs.Sound.{Sound, sound, zone-between}
-use Rattle.casefile.specs.Held.{unitHeld}
+use Rattle.unit.specs.Held.{unitHeld}
 use Rattle.pricing.specs.Dividing.{Dividing}
 use Rattle.pricing.proofs.Dividing.{pushable, dividing-more, dividing-ends}
 use borrow.Author.Needs.{needs}

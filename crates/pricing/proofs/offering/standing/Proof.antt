@@ -1,6 +1,6 @@
 -- `pricing::offering::standing` meets its contract: each return is a law of `Dividing`.
 use Rattle.rules.proofs.Sound.{sound}
-use Rattle.casefile.specs.Held.{unitHeld}
+use Rattle.unit.specs.Held.{unitHeld}
 use Rattle.pricing.proofs.Dividing.{bare-pushable, must-run, may-stand}
 use borrow.Author.Needs.{needs}
 use Rattle.pricing.proofs.offering.standing.Statement.{statement}

@@ -1,0 +1,136 @@
+-- What packing has written so far: one entry more, one edge more, one body more, and the whole file.
+use Prim.Native.Nat.{ℕ, zero, suc, _+_, _*_, _≤_, _<_}
+use native.Mathlib.Numerals.{add-one}
+use native.Mathlib.Decide.{decLt}
+use native.Mathlib.Omega.{arith}
+use mathlib.Core.Path.{_≡_, refl, ap, sym, _∙_}
+use mathlib.Core.List.{List, [], _∷_, _++_, append-assoc, append-nil}
+use lib.ListN.{length, getD, take, length-append, length-take, List·getD-eq-default}
+use lib.Seq.{take-suc, getD-take, length-take-le}
+use Rattle.fields.specs.Field.{bytes, bytesOfEach, written}
+use Rattle.fields.proofs.Width.{length-bytes}
+use Rattle.rules.specs.Lists.{each}
+use Rattle.rules.specs.Layout.{Unit, bodyOfUnit, contentsFrom, bodiesOf, fileOf}
+use Rattle.rules.specs.Calls.{over}
+use Rattle.rules.proofs.Lists.{length-each, Every}
+use Rattle.rules.proofs.Sound.{Sound, edge-small}
+use Rattle.rules.proofs.Pieces.{length-each-bytes}
+use Rattle.packing.specs.Held.{unitInRow, bodiesLength, RowsSound, WordsFit}
+use Rattle.rules.proofs.Front.{Front, lent, givenBack, front-none, front-made, front-field, front-tail, front-over}
+use Rattle.packing.proofs.Lengths.{sizeOf, total, total-more, few-zones, length-row-edges, contents-more, bodies-more}
+
+-- ---- the contents
+
+pub entry-next : {s₀ s s₁ s₂ : List ℕ} (f : ℕ → Unit) (at i offset size : ℕ) → Front s₀ (contentsFrom at (each i f)) s (4 * i) → s₁ ≡ written s (4 * i) 2 offset → s₂ ≡ written s₁ (4 * i + 2) 2 size → offset ≡ at + total f i → size ≡ sizeOf (f i) → Front s₀ (contentsFrom at (each (i + 1) f)) s₂ (4 * (i + 1))
+entry-next f at i offset size p e₁ e₂ o z =
+    let n : 4 * (i + 1) ≡ 4 * i + 2 + 2 = omega arith in
+    rw (n, contents-more f at i, ← o, ← z) (front-field (front-field p 2 offset e₁) 2 size e₂)
+
+-- ---- a body: two numbers of 32 bits, nine words, the edges in use
+
+abbrev pub wordsOf : Unit → List ℕ
+wordsOf u = u .c2 ∷ u .b ∷ u .least ∷ u .greatest ∷ u .previous ∷ u .up ∷ u .down ∷ u .mark ∷ u .zoneCount ∷ []
+
+words-every : (words : List ℕ) → Every (λ w. w < 65536) words → (k : ℕ) → getD words k 0 < 65536
+words-every [] p k = omega arith
+words-every (w ∷ ws) p zero = p .0
+words-every (w ∷ ws) p (suc k) = words-every ws (p .1) k
+
+module _ {u : Unit} (s : Sound u) where
+  pub words-fit : WordsFit (wordsOf u)
+  words-fit =
+      record {
+        small = words-every (wordsOf u) (
+          omega (arith, s .c2),
+          (
+            omega (arith, s .b),
+            (
+              omega (arith, s .range, s .greatest),
+              (
+                omega (arith, s .greatest),
+                (
+                  omega (arith, s .previous),
+                  (omega (arith, s .up), (omega (arith, s .down), (omega (arith, s .mark), (omega (arith, s .zoneCount), tt)))),
+                ),
+              ),
+            ),
+          ),
+        );
+      }
+
+  pub edges-fit : (n : ℕ) → WordsFit (take n (u .edges))
+  edges-fit n = record { small = λ k. by k (decLt k n) }
+    where
+      by : (k : ℕ) → Dec (k < n) → getD (take n (u .edges)) k 0 < 65536
+      by k (yes h) = rw (getD-take n (u .edges) k 0 h) (omega (arith, edge-small s k))
+      by k (no h) = rw (List·getD-eq-default (take n (u .edges)) 0 {n = k} (simp length-take (omega arith))) (omega arith)
+
+body-parts : (u : Unit) → bytes 4 (u .c0) ++ bytes 4 (u .c1) ++ bytesOfEach 2 (wordsOf u) ++ bytesOfEach 2 (take (2 * u .zoneCount) (u .edges)) ≡ bodyOfUnit u
+unfolding bodyOfUnit bytesOfEach
+body-parts u = simp (append-assoc, append-nil)
+
+module _ (u : Unit) (s₀ s₁ s₂ t : List ℕ) (e₁ : s₁ ≡ written s₀ 0 4 (u .c0)) (e₂ : s₂ ≡ written s₁ 4 4 (u .c1)) (e₃ : t ≡ over (bytesOfEach 2 (wordsOf u)) (lent 8 s₂)) where
+  pub numbers-front : Front s₀ (bytes 4 (u .c0) ++ bytes 4 (u .c1) ++ bytesOfEach 2 (wordsOf u)) (givenBack 8 s₂ t) 26
+  numbers-front =
+      front-tail (front-field (front-field (front-none s₀) 4 (u .c0) e₁) 4 (u .c1) e₂) t (bytesOfEach 2 (wordsOf u)) 18 (length-each-bytes 2 (wordsOf u)) e₃
+
+  pub body-whole : (r : List ℕ) → r ≡ over (bytesOfEach 2 (take (2 * u .zoneCount) (u .edges))) (lent 26 (givenBack 8 s₂ t)) → givenBack 26 (givenBack 8 s₂ t) r ≡ over (bodyOfUnit u) s₀
+  body-whole r e =
+      let edges = bytesOfEach 2 (take (2 * u .zoneCount) (u .edges)) in
+      front-over (front-tail numbers-front r edges (length edges) refl e) ∙ ap (λ (p : List ℕ). over p s₀) (body-parts u)
+
+-- ---- the bodies
+
+length-body : (u : Unit) → 2 * u .zoneCount ≤ length (u .edges) → length (bodyOfUnit u) ≡ sizeOf u
+length-body u h =
+    let words : length (bytesOfEach 2 (wordsOf u)) ≡ 18 = length-each-bytes 2 (wordsOf u) in
+    let edges : length (bytesOfEach 2 (take (2 * u .zoneCount) (u .edges))) ≡ 4 * u .zoneCount = length-each-bytes 2 (take (2 * u .zoneCount) (u .edges)) ∙ rw (length-take-le (2 * u .zoneCount) (u .edges) h) (omega arith) in
+    sym (ap length (body-parts u)) ∙ simp (length-append, length-bytes, words, edges) (omega arith)
+
+-- row i's body, written by a callee that was lent the part from `at` on
+pub body-next : {s₀ s : List ℕ} {at : ℕ} (rows : List ℕ) (i : ℕ) (t : List ℕ) → 19 * i + 19 ≤ length rows → unitInRow rows i .zoneCount ≤ 4 → Front s₀ (bodiesOf (each i (unitInRow rows))) s at → t ≡ over (bodyOfUnit (unitInRow rows i)) (lent at s) → Front s₀ (bodiesOf (each (i + 1) (unitInRow rows))) (givenBack at s t) (at + sizeOf (unitInRow rows i))
+body-next rows i t h z f e =
+    let u = unitInRow rows i in
+    rw (bodies-more (unitInRow rows) i) (front-tail f t (bodyOfUnit u) (sizeOf u) (length-body u (omega (arith, length-row-edges rows i h))) e)
+
+-- ---- the file
+
+length-contents : (at : ℕ) (us : List Unit) → length (contentsFrom at us) ≡ 4 * length us
+unfolding contentsFrom
+length-contents at [] = refl
+length-contents at (u ∷ us) = simp (length-append, length-bytes) (omega (arith, length-contents (at + sizeOf u) us))
+
+abbrev pub headOf : ℕ → ℕ → List ℕ
+headOf n d = bytes 2 1 ++ bytes 2 n ++ bytes 4 d
+
+module _ (n d : ℕ) (f : ℕ → Unit) (s₀ s t : List ℕ) (e : s ≡ over (headOf n d) s₀) (g : t ≡ over (contentsFrom (8 + 4 * n) (each n f)) (lent 8 s)) where
+  pub front-contents : Front s₀ (headOf n d ++ contentsFrom (8 + 4 * n) (each n f)) (givenBack 8 s t) (8 + 4 * n)
+  front-contents =
+      let units : length (each n f) ≡ n = length-each n f in
+      let head : length (headOf n d) ≡ 8 = simp (length-append, length-bytes) in
+      front-tail (front-made s₀ (headOf n d) s 8 head e) t (contentsFrom (8 + 4 * n) (each n f)) (4 * n) (length-contents (8 + 4 * n) (each n f) ∙ rw units) g
+
+  pub file-whole : (r : List ℕ) → r ≡ over (bodiesOf (each n f)) (lent (8 + 4 * n) (givenBack 8 s t)) → givenBack (8 + 4 * n) (givenBack 8 s t) r ≡ over (fileOf d (each n f)) s₀
+  unfolding fileOf
+  file-whole r h =
+      front-over (front-tail front-contents r (bodiesOf (each n f)) (length (bodiesOf (each n f))) refl h)
+      ∙ ap (λ (k : ℕ). over (headOf k d ++ contentsFrom (8 + 4 * k) (each n f) ++ bodiesOf (each n f)) s₀) (sym (length-each n f))
+
+-- the file is as long as its parts
+module _ {rows : List ℕ} {n : ℕ} (r : RowsSound rows n) where
+  length-bodies : (i : ℕ) → i ≤ n → length (bodiesOf (each i (unitInRow rows))) ≡ bodiesLength rows i
+  unfolding bodiesOf
+  length-bodies zero h = refl
+  length-bodies (suc i) h =
+      let more = bodies-more (unitInRow rows) i in
+      let edges = length-row-edges rows i (omega (arith, r .room)) in
+      let body = length-body (unitInRow rows i) (omega (arith, edges, few-zones r i (omega arith))) in
+      let e : length (bodiesOf (each (i + 1) (unitInRow rows))) ≡ bodiesLength rows (i + 1) = ap length more ∙ length-append (bodiesOf (each i (unitInRow rows))) (bodyOfUnit (unitInRow rows i)) ∙ omega (arith, length-bodies i (omega arith), body, total-more (unitInRow rows) i) in
+      rw (add-one i) at e
+
+  pub length-file : (d : ℕ) → length (fileOf d (each n (unitInRow rows))) ≡ 8 + 4 * n + bodiesLength rows n
+  unfolding fileOf
+  length-file d =
+      let bodies = length-bodies n (omega arith) in
+      let contents = length-contents (8 + 4 * length (each n (unitInRow rows))) (each n (unitInRow rows)) in
+      simp (length-append, length-bytes) (omega (arith, bodies, contents, length-each n (unitInRow rows)))

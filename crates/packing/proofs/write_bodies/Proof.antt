@@ -1,0 +1,103 @@
+-- `packing::write_bodies` meets its contract: the bodies of the first i rows are written.
+use Prim.Native.Nat.{ℕ, _+_, _≤_, _-_, _*_}
+use native.Mathlib.Omega.{arith}
+use mathlib.Core.Path.{_≡_, refl, ap, _∙_}
+use lib.ListN.{length-take, length-drop, length}
+use denote.Ref.{now}
+use Rattle.rules.specs.Layout.{Unit, bodyOfUnit, bodiesOf}
+use Rattle.rules.specs.Refusal.{unitVerdict}
+use Rattle.rules.specs.Calls.{over}
+use Rattle.rules.specs.Lists.{each}
+use Rattle.packing.specs.Held.{unitInRow}
+use Rattle.rules.proofs.Front.{lent, Front, front-none, front-length, front-over}
+use Rattle.packing.proofs.Lengths.{sizeOf, total, total-more, total-until, few-zones}
+use Rattle.packing.proofs.Written.{body-next}
+use Rattle.packing.proofs.write_bodies.Statement.{statement}
+use Rattle.packing.proofs.write_bodies.Tie as tie
+
+abbrev Inv-loop : tie.InvT-loop
+Inv-loop part₀ rows n at₀ i₀ part at i = (i ≤ n) × (length part ≡ length part₀) × (at ≡ total (unitInRow rows) i) × (at ≤ 42 * i) × Front part₀ (bodiesOf (each i (unitInRow rows))) part at
+
+abbrev μ-loop : tie.MeasureT-loop
+μ-loop part₀ rows n at₀ i₀ part at i = n - i
+
+loop-holds : tie.Need-loop-holds Inv-loop μ-loop
+unfolding bodiesOf
+loop-holds c = (omega arith, refl, refl, omega arith, front-none (now (c .before .before .args .part)))
+
+room : (c : tie.In-loop Inv-loop μ-loop) → c .before .loop .at + sizeOf (unitInRow (now (c .before .before .before .before .args .rows)) (c .before .loop .i)) ≤ length (now (c .before .before .before .before .args .part))
+room c =
+    let s = c .before .before .before .before in
+    omega (arith, total-until (unitInRow (now (s .args .rows))) (c .before .loop .i) (s .args .n) (omega arith), s .pre .1)
+
+sub-write-body : tie.Need-sub-write-body Inv-loop μ-loop
+sub-write-body c = omega (arith, room c)
+
+part-write-body-start : tie.Need-part-write-body-start Inv-loop μ-loop
+part-write-body-start c = omega (arith, room c)
+
+part-write-body-end : tie.Need-part-write-body-end Inv-loop μ-loop
+part-write-body-end c = omega arith
+
+read-row-requires : tie.Need-read-row-requires Inv-loop μ-loop
+read-row-requires c κs = omega arith
+
+write-body-requires : tie.Need-write-body-requires Inv-loop μ-loop
+write-body-requires c κs =
+    let s = c .before .before .before .before .before .before in
+    let l = c .before .before .before .loop in
+    (ap unitVerdict (c .read-row .ensures) ∙ s .pre .0 .accepted (l .i) (omega arith), simp (length-take, length-drop) (omega (arith, room (c .before .before), ap (λ (u : Unit). u .zoneCount) (c .read-row .ensures))))
+
+body-length-requires : tie.Need-body-length-requires Inv-loop μ-loop
+body-length-requires c κs =
+    let s = c .before .before .before .before .before .before .before .before .before in
+    (omega arith, few-zones (s .pre .0) (c .before .before .before .before .before .before .loop .i) (omega arith))
+
+add-at : tie.Need-add-at Inv-loop μ-loop
+add-at c = omega arith
+
+add-i : tie.Need-add-i Inv-loop μ-loop
+add-i c = omega arith
+
+loop-less : tie.Need-loop-less Inv-loop μ-loop
+loop-less c = omega arith
+
+loop-again : tie.Need-loop-again Inv-loop μ-loop
+loop-again c =
+    let s = c .before .before .before .before .before .before .before .before .before .before in
+    let l = c .before .before .before .before .before .before .before .loop in
+    let rows = now (s .args .rows) in
+    let z = few-zones (s .pre .0) (l .i) (omega arith) in
+    let size = c .body-length .ensures in
+    let f = rw (← size .0) at (body-next rows (l .i) (c .before .before .before .write-body .last .0) (omega arith) z (l .inv .4) (c .before .before .before .write-body .ensures ∙ ap (λ (u : Unit). over (bodyOfUnit u) (lent (l .at) (l .part))) (c .before .before .before .before .read-row .ensures))) in
+    (omega arith, front-length f (omega (arith, room (c .before .before .before .before .before .before))), omega (arith, total-more (unitInRow rows) (l .i)), omega arith, f)
+
+same-length : tie.Need-same-length Inv-loop μ-loop
+same-length c = omega arith
+
+returns : tie.Need-returns Inv-loop μ-loop
+returns c =
+    let l = c .before .loop in
+    let a = c .before .before .before .before .args in
+    let e : l .i ≡ a .n = omega arith in
+    front-over (l .inv .4) ∙ ap (λ (n : ℕ). over (bodiesOf (each n (unitInRow (now (a .rows))))) (now (a .part))) e
+
+pub write-bodies-spec : {M : Type 1} → statement M
+write-bodies-spec =
+    tie.close
+    (tie.spec
+    Inv-loop
+    μ-loop
+    loop-holds
+    sub-write-body
+    part-write-body-start
+    part-write-body-end
+    read-row-requires
+    write-body-requires
+    body-length-requires
+    add-at
+    add-i
+    loop-less
+    loop-again
+    same-length
+    returns)

@@ -1,0 +1,60 @@
+-- The two loops over a unit's edges: what is left to look at decides what all of it decides.
+use Prim.Native.Nat.{ℕ, _+_, _*_, _≤_, _<_}
+use native.Mathlib.Numerals.{add-one}
+use mathlib.Core.Path.{_≡_}
+use mathlib.Core.Bool.{Bool, true, false}
+use mathlib.Core.List.{List}
+use lib.Dec.{ltb, eqb}
+use lib.ListN.{length, getD, drop, drop-of-length-le}
+use lib.Seq.{drop-cons}
+use borrow.Author.Tests.{lt-ltb, le-ltb, eq-eqb, ne-eqb}
+use Rattle.rules.specs.Lists.{each, all}
+use Rattle.rules.specs.Layout.{Zone}
+use Rattle.rules.specs.Refusal.{zonesAscend}
+use Rattle.rules.proofs.Each.{rest-ends, rest-more}
+
+-- ---- the unused edges
+
+abbrev pub allZero : List ℕ → Bool
+allZero s = all (λ e. eqb e 0) s
+
+module _ (edges : List ℕ) (k : ℕ) where
+  pub zero-ends : length edges ≤ k → allZero (drop k edges) ≡ true
+  zero-ends h = rw (drop-of-length-le edges h)
+
+  module _ (h : k < length edges) where
+    pub zero-fails : (getD edges k 0 ≡ 0 → ⊥) → allZero (drop k edges) ≡ false
+    zero-fails n = rw (drop-cons edges k 0 h, ne-eqb (getD edges k 0) 0 n)
+
+    pub zero-more : getD edges k 0 ≡ 0 → allZero (drop k edges) ≡ allZero (drop (k + 1) edges)
+    zero-more e = rw (drop-cons edges k 0 h, eq-eqb (getD edges k 0) 0 e, add-one)
+
+-- ---- the zones in use
+
+abbrev pub zoneAt : List ℕ → ℕ → Zone
+zoneAt edges k = record { lower = getD edges (2 * k) 0; upper = getD edges (2 * k + 1) 0 }
+
+-- whether the zones from number k on ascend above `below`
+abbrev pub ascendFrom : List ℕ → ℕ → ℕ → ℕ → ℕ → Bool
+ascendFrom edges z below k greatest = zonesAscend below (drop k (each z (zoneAt edges))) greatest
+
+module _ (edges : List ℕ) (z below k greatest : ℕ) where
+  pub ascend-ends : z ≤ k → ascendFrom edges z below k greatest ≡ ltb below greatest
+  unfolding zonesAscend
+  ascend-ends h = rw (rest-ends z (zoneAt edges) k h)
+
+  module _ (h : k < z) where
+    pub ascend-fails-lower : getD edges (2 * k) 0 ≤ below → ascendFrom edges z below k greatest ≡ false
+    unfolding zonesAscend
+    ascend-fails-lower p = rw (rest-more z (zoneAt edges) k h, le-ltb below (getD edges (2 * k) 0) p)
+
+    module _ (l : below < getD edges (2 * k) 0) where
+      pub ascend-fails-upper : getD edges (2 * k + 1) 0 ≤ getD edges (2 * k) 0 → ascendFrom edges z below k greatest ≡ false
+      unfolding zonesAscend
+      ascend-fails-upper p =
+          rw (rest-more z (zoneAt edges) k h, lt-ltb below (getD edges (2 * k) 0) l, le-ltb (getD edges (2 * k) 0) (getD edges (2 * k + 1) 0) p)
+
+      pub ascend-more : getD edges (2 * k) 0 < getD edges (2 * k + 1) 0 → ascendFrom edges z below k greatest ≡ ascendFrom edges z (getD edges (2 * k + 1) 0) (k + 1) greatest
+      unfolding zonesAscend
+      ascend-more p =
+          rw (rest-more z (zoneAt edges) k h, lt-ltb below (getD edges (2 * k) 0) l, lt-ltb (getD edges (2 * k) 0) (getD edges (2 * k + 1) 0) p)

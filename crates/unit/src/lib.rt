@@ -1,0 +1,168 @@
+// A unit and its checks, refusals 7 to 10. They serve the bodies of a file and the planner's rows alike.
+ghost use mathlib.Core.Path.{_≡_};
+ghost use mathlib.Core.Bool.{not, _&&_, _||_};
+ghost use Prim.Native.Nat.{_≤_};
+ghost use lib.Dec.{ltb, leb, eqb};
+ghost use lib.ListN.{drop};
+ghost use Rattle.rules.specs.Lists.{all};
+ghost use Rattle.rules.specs.Layout.{zones};
+ghost use Rattle.rules.specs.Refusal.{unusedEdgesZero, zonesAscend, unitVerdict};
+ghost use Rattle.unit.specs.Held.{unitHeld};
+use rules::Refusal;
+use rules::Verdict;
+
+// A unit as the nineteen numbers of a row.
+pub struct Unit {
+    pub c0: u32,
+    pub c1: u32,
+    pub c2: u32,
+    pub b: u32,
+    pub least: u32,
+    pub greatest: u32,
+    pub previous: u32,
+    pub up: u32,
+    pub down: u32,
+    pub mark: u32,
+    pub zone_count: u32,
+    pub edges: [u32; 8],
+}
+
+// Whether every edge from `first` on is zero.
+fn zero_from(edges: [u32; 8], first: usize) -> bool
+    ensures { λ r. ⌜ r ≡ all (λ e. eqb e 0) (drop first edges) ⌝ }
+{
+    let mut k = first;
+    while k < 8 {
+        if edges[k] != 0 {
+            return false;
+        }
+        k += 1;
+    }
+    true
+}
+
+// Refusal 7: too many zones, or an unused edge that is not zero.
+fn zone_count_invalid(u: Unit) -> bool
+    ensures { λ r. ⌜ r ≡ (ltb 4 (unitHeld u .zoneCount) || not (unusedEdgesZero (unitHeld u))) ⌝ }
+{
+    let Unit {
+        zone_count,
+        edges,
+        ..
+    } = u;
+    if zone_count > 4 {
+        return true;
+    }
+    !zero_from(edges, 2 * zone_count as usize)
+}
+
+// Refusal 8: a coefficient above its limit.
+fn coefficient_out_of_range(u: Unit) -> bool
+    ensures { λ r. ⌜ r ≡ (ltb 1000000000 (u .c0) || ltb 10000000 (u .c1) || ltb 1000 (u .c2) || ltb 5000 (u .b)) ⌝ }
+{
+    let Unit { c0, c1, c2, b, .. } = u;
+    if c0 > 1000000000 {
+        return true;
+    }
+    if c1 > 10000000 {
+        return true;
+    }
+    if c2 > 1000 {
+        return true;
+    }
+    b > 5000
+}
+
+// Whether the zones lie between least and greatest output, apart and in order.
+fn zones_ascend(u: Unit) -> bool
+    requires { ⌜ unitHeld u .zoneCount ≤ 4 ⌝ }
+    ensures { λ r. ⌜ r ≡ zonesAscend (u .least) (zones (unitHeld u)) (u .greatest) ⌝ }
+{
+    let Unit {
+        least,
+        greatest,
+        zone_count,
+        edges,
+        ..
+    } = u;
+    let zone_count = zone_count as usize;
+    let mut below = least;
+    let mut k = 0;
+    while k < zone_count {
+        let lower = edges[2 * k];
+        let upper = edges[2 * k + 1];
+        if lower <= below {
+            return false;
+        }
+        if upper <= lower {
+            return false;
+        }
+        below = upper;
+        k += 1;
+    }
+    below < greatest
+}
+
+// Refusal 9: least, greatest or an edge out of range or order.
+fn limits_invalid(u: Unit) -> bool
+    requires { ⌜ unitHeld u .zoneCount ≤ 4 ⌝ }
+    ensures { λ r. ⌜ r ≡ not (leb 1 (u .least) && ltb (u .least) (u .greatest) && leb (u .greatest) 10000 && zonesAscend (u .least) (zones (unitHeld u)) (u .greatest)) ⌝ }
+{
+    let Unit {
+        least,
+        greatest,
+        ..
+    } = u;
+    if least < 1 {
+        return true;
+    }
+    if greatest <= least {
+        return true;
+    }
+    if greatest > 10000 {
+        return true;
+    }
+    !zones_ascend(u)
+}
+
+// Refusal 10: previous output, up step, down step or mark out of range.
+fn ramp_or_mark_out_of_range(u: Unit) -> bool
+    ensures { λ r. ⌜ r ≡ (ltb 10000 (u .previous) || ltb 10000 (u .up) || ltb 10000 (u .down) || ltb 1 (u .mark)) ⌝ }
+{
+    let Unit {
+        previous,
+        up,
+        down,
+        mark,
+        ..
+    } = u;
+    if previous > 10000 {
+        return true;
+    }
+    if up > 10000 {
+        return true;
+    }
+    if down > 10000 {
+        return true;
+    }
+    mark > 1
+}
+
+// The first refusal of a unit.
+pub fn check_unit(u: Unit) -> Verdict
+    ensures { λ r. ⌜ r ≡ unitVerdict (unitHeld u) ⌝ }
+{
+    if zone_count_invalid(u) {
+        return Verdict::Refused(Refusal::ZoneCountInvalid);
+    }
+    if coefficient_out_of_range(u) {
+        return Verdict::Refused(Refusal::CoefficientOutOfRange);
+    }
+    if limits_invalid(u) {
+        return Verdict::Refused(Refusal::LimitsInvalid);
+    }
+    if ramp_or_mark_out_of_range(u) {
+        return Verdict::Refused(Refusal::RampOrMarkOutOfRange);
+    }
+    Verdict::Accepted
+}

@@ -1,0 +1,31 @@
+-- What unpacking gives, case by case.
+use Prim.Native.Nat.{ℕ, _≤_, _<_}
+use mathlib.Core.Path.{_≡_}
+use mathlib.Core.List.{List}
+use lib.ListN.{length}
+use borrow.Author.Tests.{lt-ltb, le-ltb}
+use Rattle.rules.specs.Lists.{each}
+use Rattle.rules.specs.Layout.{caseOf, rowsOfUnits, count, demand}
+use Rattle.rules.specs.Refusal.{fileVerdict}
+use Rattle.rules.specs.Calls.{over, unpackVerdict, unpackEnds, unpacked}
+use Rattle.rules.specs.declared.Refusal.{Refusal}
+use Rattle.rules.specs.declared.Refusal.the-variants.{BufferTooShort}
+use Rattle.rules.specs.declared.Verdict.the-variants.{Accepted, Refused}
+use Rattle.rules.specs.declared.Unpacked.{Unpacked}
+use Rattle.rules.proofs.Lists.{length-each}
+use Rattle.casefile.specs.Held.{unitAt}
+
+module _ (file rows : List ℕ) where
+  pub unpacked-short : length rows < 608 → unpacked file rows ≡ record { answer = Unpacked.Refused BufferTooShort; rows = rows }
+  unfolding unpacked unpackVerdict unpackEnds
+  unpacked-short h = rw (lt-ltb (length rows) 608 h)
+
+  module _ (long : 608 ≤ length rows) where
+    pub unpacked-refused : {r : Refusal} → fileVerdict file ≡ Refused r → unpacked file rows ≡ record { answer = Unpacked.Refused r; rows = rows }
+    unfolding unpacked unpackVerdict unpackEnds
+    unpacked-refused e = rw (le-ltb (length rows) 608 long, e)
+
+    -- the rows are those of the case's units
+    pub unpacked-read : fileVerdict file ≡ Accepted → unpacked file rows ≡ record { answer = Unpacked.Read (demand file) (count file); rows = over (rowsOfUnits (each (count file) (unitAt file))) rows }
+    unfolding unpacked unpackVerdict unpackEnds caseOf
+    unpacked-read e = rw (le-ltb (length rows) 608 long, e, length-each (count file) (unitAt file))
