@@ -1,14 +1,14 @@
 -- The reply's fields written one behind the other, and the outputs into the lent tail, are the reply's bytes over the buffer.
 use Prim.Native.Nat.{ℕ, _+_, _-_, _*_, _≤_}
-use mathlib.Core.Path.{_≡_, refl, ap, sym, _∙_}
-use mathlib.Core.List.{List, [], _++_}
+use mathlib.Core.Path.{_≡_, ap, _∙_}
+use mathlib.Core.List.{List}
 use lib.ListN.{length, take}
 use lib.Seq.{length-take-le}
-use Rattle.fields.specs.Field.{bytes, written, bytesOfEach}
+use Rattle.fields.specs.Field.{written, bytesOfEach}
 use Rattle.rules.specs.Calls.{over, replyBytes}
 use Rattle.rules.proofs.Pieces.{length-each-bytes}
 use Rattle.rules.proofs.ReplyBytes.{length-reply}
-use Rattle.rules.proofs.Front.{Front, lent, givenBack, front-none, front-field, front-tail, front-over}
+use Rattle.rules.proofs.Front.{lent, givenBack, front-none, front-field, front-tail, front-over}
 use Rattle.bisection.specs.Held.{replyHeld}
 use Rattle.bisection.specs.declared.reply.Reply as code
 

@@ -1,6 +1,6 @@
 // From a case file's bytes to the reply's: check, decode once, search, write.
 ghost use mathlib.Core.Path.{_≡_};
-ghost use Prim.Native.Nat.{ℕ, _≤_};
+ghost use Prim.Native.Nat.{_≤_};
 ghost use lib.ListN.{length};
 ghost use Rattle.rules.specs.Refusal.{fileVerdict};
 ghost use Rattle.rules.specs.Calls.{dispatched};

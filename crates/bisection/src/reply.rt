@@ -1,6 +1,6 @@
 // The reply's bytes: five numbers, and from byte 28 the outputs, written into the lent tail.
 ghost use mathlib.Core.Path.{_≡_};
-ghost use Prim.Native.Nat.{ℕ, _+_, _*_, _≤_};
+ghost use Prim.Native.Nat.{_+_, _*_, _≤_};
 ghost use lib.ListN.{length, take};
 ghost use Rattle.fields.specs.Field.{bytesOfEach};
 ghost use Rattle.rules.specs.Calls.{over, replyBytes};

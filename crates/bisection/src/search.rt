@@ -1,7 +1,7 @@
 // The search of document 01, steps 2 to 4, over a decoded problem.
 ghost use mathlib.Core.Path.{_≡_};
 ghost use mathlib.Core.Bool.{cond};
-ghost use Prim.Native.Nat.{ℕ, _+_, _*_, _≤_};
+ghost use Prim.Native.Nat.{_+_, _*_};
 ghost use lib.Signed.{leZ};
 ghost use Rattle.pricing.specs.Totals.{Sized};
 ghost use Rattle.bisection.specs.Search.{Searchable, Started, Halves, Searches};

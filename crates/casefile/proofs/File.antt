@@ -3,7 +3,7 @@ use Prim.Native.Nat.{ℕ, _<_}
 use mathlib.Core.Path.{_≡_, sym, _∙_}
 use mathlib.Core.List.{List}
 use Rattle.rules.specs.Lists.{each}
-use Rattle.rules.specs.Layout.{unitOfBody, count, body}
+use Rattle.rules.specs.Layout.{count, body, unitAt}
 use Rattle.rules.specs.Refusal.{inOrder, headVerdict, contentsVerdict, unitVerdict, bodyVerdict, fileVerdict}
 use Rattle.rules.specs.declared.Refusal.{Refusal}
 use Rattle.rules.specs.declared.Verdict.the-variants.{Accepted, Refused}
@@ -48,5 +48,5 @@ module _ (file : List ℕ) (accepted : fileVerdict file ≡ Accepted) where
     pub accepted-fits : BodyFits (body file i)
     accepted-fits = body-accepted (body file i) accepted-body
 
-    pub accepted-unit : unitVerdict (unitOfBody (body file i)) ≡ Accepted
+    pub accepted-unit : unitVerdict (unitAt file i) ≡ Accepted
     accepted-unit = sym (body-fits (body file i) accepted-fits) ∙ accepted-body

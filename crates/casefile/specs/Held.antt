@@ -1,14 +1,10 @@
--- A unit in a file, and what the code requires of a head and a body.
+-- What the code requires of a head and of a body.
 use Prim.Native.Nat.{ℕ, _+_, _*_, _≤_}
 use mathlib.Core.Path.{_≡_}
 use mathlib.Core.List.{List}
 use lib.ListN.{length}
 use Rattle.fields.specs.Field.{field}
-use Rattle.rules.specs.Layout.{Unit, unitOfBody, bodyLength, count, offset, size, body}
-
--- Unit i of a file.
-abbrev pub unitAt : List ℕ → ℕ → Unit
-unitAt file i = unitOfBody (body file i)
+use Rattle.rules.specs.Layout.{bodyLength, count, offset, size}
 
 -- A body whose zone count is at most 4 and fits its length.
 pub record BodyFits (s : List ℕ) : Type 0 where

@@ -1,10 +1,9 @@
 // Reading an accepted case file: the demand, the unit count and each unit, which together are the file's case.
 ghost use mathlib.Core.Path.{_≡_};
 ghost use Prim.Native.Nat.{_<_};
-ghost use Rattle.rules.specs.Layout.{count, demand};
+ghost use Rattle.rules.specs.Layout.{count, demand, unitAt};
 ghost use Rattle.rules.specs.Refusal.{fileVerdict};
 ghost use Rattle.unit.specs.Held.{unitHeld};
-ghost use Rattle.casefile.specs.Held.{unitAt};
 use crate::checking::body_of;
 use crate::reading::read_body;
 use rules::Verdict;

@@ -1,7 +1,7 @@
 // Big-endian numbers of 16, 32 and 64 bits in byte slices. One loop reads and one loop writes a number of any width up to
 // eight bytes; the functions at a width are calls of them.
 ghost use mathlib.Core.Path.{_≡_};
-ghost use Prim.Native.Nat.{ℕ, _+_, _≤_, _<_, _^_};
+ghost use Prim.Native.Nat.{_+_, _≤_, _<_, _^_};
 ghost use lib.ListN.{length};
 ghost use Rattle.fields.specs.Field.{field, written};
 

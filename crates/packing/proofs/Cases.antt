@@ -7,7 +7,7 @@ use lib.Dec.{ltb, eqb}
 use lib.ListN.{length}
 use borrow.Author.Tests.{lt-ltb, le-ltb, ltb-false}
 use Rattle.rules.specs.Lists.{each}
-use Rattle.rules.specs.Layout.{unitsOfRows, fileOf}
+use Rattle.rules.specs.Layout.{unitInRow, unitsOfRows, bodiesLength, fileOf}
 use Rattle.rules.specs.Refusal.{inOrder, unitVerdict}
 use Rattle.rules.specs.Calls.{PackResult, over, packVerdict, packEnds, packed}
 use Rattle.rules.specs.declared.Refusal.{Refusal}
@@ -16,8 +16,8 @@ use Rattle.rules.specs.declared.Verdict.{Verdict}
 use Rattle.rules.specs.declared.Verdict.the-variants.{Accepted, Refused}
 use Rattle.rules.specs.declared.Packed.{Packed}
 use Rattle.rules.proofs.Lists.{or-false, length-each, in-order-accepted, each-every}
-use Rattle.packing.specs.Held.{unitInRow, bodiesLength, RowsSound}
-use Rattle.packing.proofs.Written.{length-file}
+use Rattle.packing.specs.Held.{RowsSound}
+use Rattle.packing.proofs.Lengths.{length-rows-file}
 
 module _ {A B : Type 0} (g : A → B) where
   map-each : (n : ℕ) (f : ℕ → A) → map g (each n f) ≡ each n (λ i. g (f i))
@@ -47,7 +47,7 @@ abbrev pub rowCount : List ℕ → ℕ
 rowCount rows = length rows / 19
 
 abbrev pub rowsFileLength : List ℕ → ℕ
-rowsFileLength rows = 8 + 4 * rowCount rows + bodiesLength rows (rowCount rows)
+rowsFileLength rows = 8 + 4 * rowCount rows + bodiesLength (each (rowCount rows) (unitInRow rows))
 
 module _ (d : ℕ) (rows file : List ℕ) where
   -- the file is written, and the answer is its length
@@ -94,4 +94,4 @@ module _ (d : ℕ) (rows file : List ℕ) where
             )
 
         pub packed-written : RowsSound rows (rowCount rows) → rowsFileLength rows ≤ length file → packed d rows file ≡ written (rowsFileLength rows)
-        packed-written sound h = whole h ∙ ap written (length-file sound d)
+        packed-written sound h = whole h ∙ ap written (length-rows-file sound d)

@@ -1,18 +1,21 @@
--- The lengths of bodies added up, and what is written of one unit more: its entry, its body.
+-- The units of sound rows can be packed; the lengths of their bodies added up; and what is written of one unit more: its entry, its body.
 use Prim.Native.Nat.{ℕ, zero, suc, _+_, _-_, _*_, _≤_, _<_}
 use native.Mathlib.Nat.{add-zero}
 use native.Mathlib.Numerals.{add-one}
 use native.Mathlib.Omega.{arith}
 use mathlib.Core.Path.{_≡_, ap, sym, _∙_}
-use mathlib.Core.List.{List, [], _∷_, _++_, map, append-assoc, append-nil}
-use lib.ListN.{length, getD, drop, length-take, length-drop}
+use mathlib.Core.List.{List, [], _∷_, _++_, append-assoc, append-nil}
+use lib.ListN.{length, getD, drop}
 use lib.Seq.{getD-take, getD-drop}
 use Rattle.fields.specs.Field.{bytes}
-use Rattle.rules.specs.Lists.{each, sum}
-use Rattle.rules.specs.Layout.{Unit, unitOfRow, bodyLength, bodyOfUnit, contentsFrom, bodiesOf}
-use Rattle.rules.proofs.Lists.{each-last}
+use Rattle.rules.specs.Lists.{each}
+use Rattle.rules.specs.Layout.{Unit, unitOfRow, rowAt, unitInRow, bodyLength, bodyOfUnit, contentsFrom, bodiesOf, bodiesLength, fileOf}
+use Rattle.rules.proofs.Lists.{length-each, each-last, every-each}
 use Rattle.rules.proofs.Sound.{sound}
-use Rattle.packing.specs.Held.{unitInRow, RowsSound}
+use Rattle.rules.proofs.Rows.{length-rowAt, row-eight}
+use Rattle.rules.proofs.Body.{Packable}
+use Rattle.rules.proofs.RoundTrip.{length-file}
+use Rattle.packing.specs.Held.{RowsSound}
 
 pub row-zones : (rows : List ℕ) (i : ℕ) → unitInRow rows i .zoneCount ≡ getD rows (19 * i + 10) 0
 unfolding unitOfRow
@@ -23,15 +26,15 @@ sizeOf u = bodyLength (u .zoneCount)
 
 -- ---- over lists
 
-sum-snoc : (us : List Unit) (u : Unit) → sum (map sizeOf (us ++ (u ∷ []))) ≡ sum (map sizeOf us) + sizeOf u
+sum-snoc : (us : List Unit) (u : Unit) → bodiesLength (us ++ (u ∷ [])) ≡ bodiesLength us + sizeOf u
 sum-snoc [] u = omega arith
 sum-snoc (v ∷ us) u = omega (arith, sum-snoc us u)
 
-contents-snoc : (at : ℕ) (us : List Unit) (u : Unit) → contentsFrom at (us ++ (u ∷ [])) ≡ contentsFrom at us ++ bytes 2 (at + sum (map sizeOf us)) ++ bytes 2 (sizeOf u)
+contents-snoc : (at : ℕ) (us : List Unit) (u : Unit) → contentsFrom at (us ++ (u ∷ [])) ≡ contentsFrom at us ++ bytes 2 (at + bodiesLength us) ++ bytes 2 (sizeOf u)
 unfolding contentsFrom
 contents-snoc at [] u = append-nil (bytes 2 at ++ bytes 2 (sizeOf u)) ∙ ap (λ (n : ℕ). bytes 2 n ++ bytes 2 (sizeOf u)) (sym (add-zero at))
 contents-snoc at (v ∷ us) u =
-    let e : at + sizeOf v + sum (map sizeOf us) ≡ at + (sizeOf v + sum (map sizeOf us)) = omega arith in
+    let e : at + sizeOf v + bodiesLength us ≡ at + (sizeOf v + bodiesLength us) = omega arith in
     rw (contents-snoc (at + sizeOf v) us u, e) (simp append-assoc)
 
 bodies-snoc : (us : List Unit) (u : Unit) → bodiesOf (us ++ (u ∷ [])) ≡ bodiesOf us ++ bodyOfUnit u
@@ -46,10 +49,10 @@ module _ (f : ℕ → Unit) where
   last i = ap (λ (n : ℕ). each n f) (add-one i) ∙ each-last i f
 
   abbrev pub total : ℕ → ℕ
-  total i = sum (map sizeOf (each i f))
+  total i = bodiesLength (each i f)
 
   pub total-more : (i : ℕ) → total (i + 1) ≡ total i + sizeOf (f i)
-  total-more i = ap (λ (us : List Unit). sum (map sizeOf us)) (last i) ∙ sum-snoc (each i f) (f i)
+  total-more i = ap bodiesLength (last i) ∙ sum-snoc (each i f) (f i)
 
   total-climbs : (i k : ℕ) → total i ≤ total (i + k)
   total-climbs i zero = rw (add-zero i) (omega arith)
@@ -68,10 +71,20 @@ module _ (f : ℕ → Unit) where
   pub bodies-more : (i : ℕ) → bodiesOf (each (i + 1) f) ≡ bodiesOf (each i f) ++ bodyOfUnit (f i)
   bodies-more i = ap bodiesOf (last i) ∙ bodies-snoc (each i f) (f i)
 
--- sound rows have at most four zones each
-pub few-zones : {rows : List ℕ} {n : ℕ} → RowsSound rows n → (i : ℕ) → i < n → unitInRow rows i .zoneCount ≤ 4
-few-zones {rows} r i h = sound (unitInRow rows i) (r .accepted i h) .zoneCount
+-- ---- of sound rows
 
-pub length-row-edges : (rows : List ℕ) (i : ℕ) → 19 * i + 19 ≤ length rows → length (unitInRow rows i .edges) ≡ 8
-unfolding unitOfRow
-length-row-edges rows i h = simp (length-take, length-drop) (omega arith)
+module _ {rows : List ℕ} {n : ℕ} (r : RowsSound rows n) where
+  pub packable : (i : ℕ) → i < n → Packable (unitInRow rows i)
+  packable i h =
+      record {
+        sound = sound (unitInRow rows i) (r .accepted i h);
+        eight = row-eight (rowAt rows i) (length-rowAt rows n i (r .room) h);
+      }
+
+  pub few-zones : (i : ℕ) → i < n → unitInRow rows i .zoneCount ≤ 4
+  few-zones i h = packable i h .sound .zoneCount
+
+  pub length-rows-file : (d : ℕ) → length (fileOf d (each n (unitInRow rows))) ≡ 8 + 4 * n + total (unitInRow rows) n
+  length-rows-file d =
+      length-file d (each n (unitInRow rows)) (every-each Packable n (unitInRow rows) packable)
+      ∙ ap (λ (k : ℕ). 8 + 4 * k + total (unitInRow rows) n) (length-each n (unitInRow rows))

@@ -1,23 +1,24 @@
--- What packing has written so far: one entry more, one edge more, one body more, and the whole file.
-use Prim.Native.Nat.{ℕ, zero, suc, _+_, _*_, _≤_, _<_}
-use native.Mathlib.Numerals.{add-one}
+-- What packing has written so far: one entry more, one body more, and the whole file.
+use Prim.Native.Nat.{ℕ, zero, suc, _+_, _*_, _<_}
 use native.Mathlib.Decide.{decLt}
 use native.Mathlib.Omega.{arith}
 use mathlib.Core.Path.{_≡_, refl, ap, sym, _∙_}
 use mathlib.Core.List.{List, [], _∷_, _++_, append-assoc, append-nil}
 use lib.ListN.{length, getD, take, length-append, length-take, List·getD-eq-default}
-use lib.Seq.{take-suc, getD-take, length-take-le}
+use lib.Seq.{getD-take}
 use Rattle.fields.specs.Field.{bytes, bytesOfEach, written}
 use Rattle.fields.proofs.Width.{length-bytes}
 use Rattle.rules.specs.Lists.{each}
-use Rattle.rules.specs.Layout.{Unit, bodyOfUnit, contentsFrom, bodiesOf, fileOf}
+use Rattle.rules.specs.Layout.{Unit, unitInRow, bodyOfUnit, contentsFrom, bodiesOf, fileOf}
 use Rattle.rules.specs.Calls.{over}
 use Rattle.rules.proofs.Lists.{length-each, Every}
 use Rattle.rules.proofs.Sound.{Sound, edge-small}
 use Rattle.rules.proofs.Pieces.{length-each-bytes}
-use Rattle.packing.specs.Held.{unitInRow, bodiesLength, RowsSound, WordsFit}
+use Rattle.rules.proofs.Body.{length-body}
+use Rattle.rules.proofs.RoundTrip.{length-contents}
+use Rattle.packing.specs.Held.{RowsSound, WordsFit}
 use Rattle.rules.proofs.Front.{Front, lent, givenBack, front-none, front-made, front-field, front-tail, front-over}
-use Rattle.packing.proofs.Lengths.{sizeOf, total, total-more, few-zones, length-row-edges, contents-more, bodies-more}
+use Rattle.packing.proofs.Lengths.{sizeOf, total, contents-more, bodies-more, packable}
 
 -- ---- the contents
 
@@ -81,24 +82,13 @@ module _ (u : Unit) (s₀ s₁ s₂ t : List ℕ) (e₁ : s₁ ≡ written s₀ 
 
 -- ---- the bodies
 
-length-body : (u : Unit) → 2 * u .zoneCount ≤ length (u .edges) → length (bodyOfUnit u) ≡ sizeOf u
-length-body u h =
-    let words : length (bytesOfEach 2 (wordsOf u)) ≡ 18 = length-each-bytes 2 (wordsOf u) in
-    let edges : length (bytesOfEach 2 (take (2 * u .zoneCount) (u .edges))) ≡ 4 * u .zoneCount = length-each-bytes 2 (take (2 * u .zoneCount) (u .edges)) ∙ rw (length-take-le (2 * u .zoneCount) (u .edges) h) (omega arith) in
-    sym (ap length (body-parts u)) ∙ simp (length-append, length-bytes, words, edges) (omega arith)
-
 -- row i's body, written by a callee that was lent the part from `at` on
-pub body-next : {s₀ s : List ℕ} {at : ℕ} (rows : List ℕ) (i : ℕ) (t : List ℕ) → 19 * i + 19 ≤ length rows → unitInRow rows i .zoneCount ≤ 4 → Front s₀ (bodiesOf (each i (unitInRow rows))) s at → t ≡ over (bodyOfUnit (unitInRow rows i)) (lent at s) → Front s₀ (bodiesOf (each (i + 1) (unitInRow rows))) (givenBack at s t) (at + sizeOf (unitInRow rows i))
-body-next rows i t h z f e =
+pub body-next : {s₀ s : List ℕ} {at : ℕ} {rows : List ℕ} {n : ℕ} → RowsSound rows n → (i : ℕ) → i < n → (t : List ℕ) → Front s₀ (bodiesOf (each i (unitInRow rows))) s at → t ≡ over (bodyOfUnit (unitInRow rows i)) (lent at s) → Front s₀ (bodiesOf (each (i + 1) (unitInRow rows))) (givenBack at s t) (at + sizeOf (unitInRow rows i))
+body-next {rows = rows} r i h t f e =
     let u = unitInRow rows i in
-    rw (bodies-more (unitInRow rows) i) (front-tail f t (bodyOfUnit u) (sizeOf u) (length-body u (omega (arith, length-row-edges rows i h))) e)
+    rw (bodies-more (unitInRow rows) i) (front-tail f t (bodyOfUnit u) (sizeOf u) (length-body u (packable r i h)) e)
 
 -- ---- the file
-
-length-contents : (at : ℕ) (us : List Unit) → length (contentsFrom at us) ≡ 4 * length us
-unfolding contentsFrom
-length-contents at [] = refl
-length-contents at (u ∷ us) = simp (length-append, length-bytes) (omega (arith, length-contents (at + sizeOf u) us))
 
 abbrev pub headOf : ℕ → ℕ → List ℕ
 headOf n d = bytes 2 1 ++ bytes 2 n ++ bytes 4 d
@@ -115,22 +105,3 @@ module _ (n d : ℕ) (f : ℕ → Unit) (s₀ s t : List ℕ) (e : s ≡ over (h
   file-whole r h =
       front-over (front-tail front-contents r (bodiesOf (each n f)) (length (bodiesOf (each n f))) refl h)
       ∙ ap (λ (k : ℕ). over (headOf k d ++ contentsFrom (8 + 4 * k) (each n f) ++ bodiesOf (each n f)) s₀) (sym (length-each n f))
-
--- the file is as long as its parts
-module _ {rows : List ℕ} {n : ℕ} (r : RowsSound rows n) where
-  length-bodies : (i : ℕ) → i ≤ n → length (bodiesOf (each i (unitInRow rows))) ≡ bodiesLength rows i
-  unfolding bodiesOf
-  length-bodies zero h = refl
-  length-bodies (suc i) h =
-      let more = bodies-more (unitInRow rows) i in
-      let edges = length-row-edges rows i (omega (arith, r .room)) in
-      let body = length-body (unitInRow rows i) (omega (arith, edges, few-zones r i (omega arith))) in
-      let e : length (bodiesOf (each (i + 1) (unitInRow rows))) ≡ bodiesLength rows (i + 1) = ap length more ∙ length-append (bodiesOf (each i (unitInRow rows))) (bodyOfUnit (unitInRow rows i)) ∙ omega (arith, length-bodies i (omega arith), body, total-more (unitInRow rows) i) in
-      rw (add-one i) at e
-
-  pub length-file : (d : ℕ) → length (fileOf d (each n (unitInRow rows))) ≡ 8 + 4 * n + bodiesLength rows n
-  unfolding fileOf
-  length-file d =
-      let bodies = length-bodies n (omega arith) in
-      let contents = length-contents (8 + 4 * length (each n (unitInRow rows))) (each n (unitInRow rows)) in
-      simp (length-append, length-bytes) (omega (arith, bodies, contents, length-each n (unitInRow rows)))

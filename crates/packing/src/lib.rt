@@ -7,11 +7,11 @@ ghost use lib.Dec.{ltb, eqb};
 ghost use lib.ListN.{length};
 ghost use Rattle.fields.specs.Field.{bytes, bytesOfEach};
 ghost use Rattle.rules.specs.Lists.{each};
-ghost use Rattle.rules.specs.Layout.{bodyLength, bodyOfUnit, contentsFrom, bodiesOf, fileOf};
+ghost use Rattle.rules.specs.Layout.{unitInRow, bodyLength, bodyOfUnit, contentsFrom, bodiesOf, bodiesLength, fileOf};
 ghost use Rattle.rules.specs.Refusal.{inOrder, unitVerdict};
 ghost use Rattle.rules.specs.Calls.{over, packed};
 ghost use Rattle.unit.specs.Held.{unitHeld};
-ghost use Rattle.packing.specs.Held.{unitInRow, bodiesLength, RowsSound, WordsFit};
+ghost use Rattle.packing.specs.Held.{RowsSound, WordsFit};
 
 mod reading;
 
@@ -63,7 +63,7 @@ fn body_length(rows: &[u32], i: usize) -> usize
 // The length of the file of `n` rows.
 fn file_length(rows: &[u32], n: usize) -> usize
     requires { ⌜ RowsSound (now rows) n ⌝ }
-    ensures { λ r. ⌜ r ≡ 8 + 4 * n + bodiesLength (now (rows .entry)) n ⌝ }
+    ensures { λ r. ⌜ r ≡ 8 + 4 * n + bodiesLength (each n (unitInRow (now (rows .entry)))) ⌝ }
 {
     let mut length = 8 + 4 * n;
     let mut i = 0;
@@ -145,7 +145,7 @@ fn write_body(part: &mut [u8], u: Unit)
 // Writes the bodies of `n` rows to the start of `part`.
 fn write_bodies(part: &mut [u8], rows: &[u32], n: usize)
     requires { ⌜ RowsSound (now rows) n ⌝ }
-    requires { ⌜ bodiesLength (now rows) n ≤ length (now part) ⌝ }
+    requires { ⌜ bodiesLength (each n (unitInRow (now rows))) ≤ length (now part) ⌝ }
     ensures { λ _. ⌜ now (part .exit) ≡ over (bodiesOf (each n (unitInRow (now (rows .entry))))) (now (part .entry)) ⌝ }
 {
     let mut at = 0;
@@ -160,7 +160,7 @@ fn write_bodies(part: &mut [u8], rows: &[u32], n: usize)
 // Writes the file of a demand and `n` rows to the start of `file`.
 fn write_file(file: &mut [u8], demand: u32, rows: &[u32], n: usize)
     requires { ⌜ RowsSound (now rows) n ⌝ }
-    requires { ⌜ 8 + 4 * n + bodiesLength (now rows) n ≤ length (now file) ⌝ }
+    requires { ⌜ 8 + 4 * n + bodiesLength (each n (unitInRow (now rows))) ≤ length (now file) ⌝ }
     ensures { λ _. ⌜ now (file .exit) ≡ over (fileOf demand (each n (unitInRow (now (rows .entry))))) (now (file .entry)) ⌝ }
 {
     write_head(file, n, demand);

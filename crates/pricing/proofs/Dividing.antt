@@ -7,7 +7,7 @@ use Prim.Native.Nat.{ℕ, _+_, _≤_, _<_, max, min}
 use native.Mathlib.Decide.{decLt, ℕ-discrete}
 use native.Mathlib.Omega.{arith}
 use lib.ListN.{drop, replicate, drop-of-length-le}
-use Rattle.rules.specs.Layout.{Unit, Zone, zones}
+use Rattle.rules.specs.Layout.{Unit, Zone, zoneAt, zones}
 use Rattle.rules.specs.Refusal.{zonesAscend}
 use Rattle.rules.specs.Unit.{permitted, offer}
 use Rattle.rules.proofs.Lists.{length-each}
@@ -18,7 +18,7 @@ use Rattle.pricing.specs.declared.Window as code-window
 use Rattle.pricing.specs.Regions.{Between, Within}
 use Rattle.pricing.specs.Held.{Bounded}
 use Rattle.pricing.specs.Dividing.{Pushable, Pushed, Windowed, outside, Dividing, Regions}
-use Rattle.pricing.proofs.Zones.{zoneAt, zone-parts, before-zone, after-zone, within-zone, next-zone}
+use Rattle.pricing.proofs.Zones.{zone-parts, before-zone, after-zone, within-zone, next-zone}
 
 -- ---- before any zone
 
@@ -135,9 +135,9 @@ module _ {u : Unit} (s : Sound u) where
         record { from = omega (arith, i .from); to = omega (arith, i .to, f (sym (d .passed p h) ∙ r .outside)) }
 
     -- behind zone k
-    module _ {r : code-offer.Offer} (l : k < u .zoneCount) (q : Pushed o (max from (w .from)) (min (zoneAt u k .lower) (w .to)) r) where
+    module _ {r : code-offer.Offer} (l : k < u .zoneCount) (q : Pushed o (max from (w .from)) (min (zoneAt (u .edges) k .lower) (w .to)) r) where
       abbrev z : Zone
-      z = zoneAt u k
+      z = zoneAt (u .edges) k
 
       abbrev zs : List Zone
       zs = drop (k + 1) (zones u)
@@ -181,7 +181,7 @@ module _ {u : Unit} (s : Sound u) where
     module _ {r : code-offer.Offer} (l : k ≡ u .zoneCount) (q : Pushed o (max from (w .from)) (min (u .greatest) (w .to)) r) where
       none-left : drop k (zones u) ≡ []
       unfolding zones
-      none-left = drop-of-length-le (zones u) {i = k} (omega (arith, length-each (u .zoneCount) (zoneAt u)))
+      none-left = drop-of-length-le (zones u) {i = k} (omega (arith, length-each (u .zoneCount) (zoneAt (u .edges))))
 
       offered″ : (p : ℕ) → Within o (o .regions) p ⊎ Between (max from (w .from)) (min (u .greatest) (w .to)) p → permitted u p ≡ true
       offered″ p (inl i) = d .offered p i

@@ -13,7 +13,8 @@ use lib.Seq.{drop-cons}
 use borrow.Author.Tests.{lt-ltb}
 use Rattle.rules.specs.Lists.{all, greatest}
 use Rattle.rules.specs.Unit.{Offer, Problem}
-use Rattle.rules.proofs.Chosen.{Among}
+use Rattle.rules.proofs.Chosen.{Among, none-among}
+use Rattle.rules.proofs.Allocations.{at-most-greatest}
 use Rattle.pricing.specs.declared.Offer as code-offer
 use Rattle.pricing.specs.declared.Problem as code-problem
 use Rattle.pricing.specs.Regions.{Between, Within, low, high}
@@ -22,28 +23,19 @@ use Rattle.pricing.specs.Totals.{nothingOffered, offerAt, HoldsProblem, 
 
 -- ---- the greatest of some numbers
 
-at-most-greatest : (p : ℕ) (ps : List ℕ) → Among p ps → p ≤ greatest ps
-at-most-greatest p [] i = absurd i
-at-most-greatest p (q ∷ qs) (inl e) = omega arith
-at-most-greatest p (q ∷ qs) (inr i) = omega (arith, at-most-greatest p qs i)
-
 greatest-at-most : (x : ℕ) (ps : List ℕ) → ((p : ℕ) → Among p ps → p ≤ x) → greatest ps ≤ x
 greatest-at-most x [] h = omega arith
 greatest-at-most x (q ∷ qs) h = omega (arith, h q (inl refl), greatest-at-most x qs (λ p i. h p (inr i)))
 
 greatest-is : (x : ℕ) (ps : List ℕ) → Among x ps → ((p : ℕ) → Among p ps → p ≤ x) → x ≡ greatest ps
-greatest-is x ps i h = omega (arith, at-most-greatest x ps i, greatest-at-most x ps h)
+greatest-is x ps i h = omega (arith, at-most-greatest ps x i, greatest-at-most x ps h)
 
 -- ---- of an offer
 
 module _ {o : code-offer.Offer} {f : Offer} (h : Holds o f) where
   -- without a region there is no output
   none-held : o .regions ≡ 0 → f .outputs ≡ []
-  none-held e = by (f .outputs) (λ p i. let w = h .inside p i in omega (arith, w .below))
-    where
-      by : (ps : List ℕ) → ((p : ℕ) → Among p ps → ⊥) → ps ≡ []
-      by [] n = refl
-      by (p ∷ ps) n = absurd (n p (inl refl))
+  none-held e = none-among (f .outputs) (λ p i. let w = h .inside p i in omega (arith, w .below))
 
   some-held : 1 ≤ o .regions → Bounded o → 0 < length (f .outputs)
   some-held l s = by (f .outputs) (h .offered (low o 0) (record { region = 0; below = l; inside = record { from = omega arith; to = s .order 0 l } }))

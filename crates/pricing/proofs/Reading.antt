@@ -7,12 +7,11 @@ use native.Mathlib.Omega.{arith}
 use lib.ListN.{length, getD, set, length-set, length-map}
 use lib.Seq.{getD-set-same, getD-set-other}
 use Rattle.rules.specs.Lists.{each}
-use Rattle.rules.specs.Layout.{Unit, count, demand, caseOf}
+use Rattle.rules.specs.Layout.{Unit, count, demand, unitAt, caseOf}
 use Rattle.rules.specs.Refusal.{headVerdict, fileVerdict}
 use Rattle.rules.specs.Unit.{Offer, offer, problemOf}
 use Rattle.rules.specs.declared.Verdict.the-variants.{Accepted}
 use Rattle.rules.proofs.Lists.{accepts, length-each, getD-each}
-use Rattle.casefile.specs.Held.{unitAt}
 use Rattle.casefile.proofs.File.{accepted-head}
 use Rattle.pricing.specs.declared.Offer as code-offer
 use Rattle.pricing.specs.Totals.{noOffer, nothingOffered}

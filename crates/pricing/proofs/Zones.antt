@@ -2,15 +2,15 @@
 use mathlib.Core.Path.{_≡_, refl, sym, _∙_}
 use mathlib.Core.Bool.{Bool, true, false, not, _&&_, true≢false}
 use mathlib.Core.List.{List, [], _∷_}
-use Prim.Native.Nat.{ℕ, _+_, _*_, _≤_, _<_}
+use Prim.Native.Nat.{ℕ, _+_, _≤_, _<_}
 use native.Mathlib.Decide.{decLt}
 use native.Mathlib.Numerals.{add-one}
 use native.Mathlib.Omega.{arith}
 use lib.Dec.{ltb}
-use lib.ListN.{getD, drop}
+use lib.ListN.{drop}
 use lib.Seq.{drop-cons}
 use borrow.Author.Tests.{lt-ltb, le-ltb}
-use Rattle.rules.specs.Layout.{Unit, Zone, zones}
+use Rattle.rules.specs.Layout.{Unit, Zone, zoneAt, zones}
 use Rattle.rules.specs.Refusal.{zonesAscend}
 use Rattle.rules.specs.Unit.{strictlyInside}
 use Rattle.rules.proofs.Lists.{Every, getD-each, length-each, accepts}
@@ -60,11 +60,8 @@ within-zone p z zs h e = by (decLt (z .lower) p)
     by (no n) = omega arith
 
 -- zone k of a unit, and those behind it
-abbrev pub zoneAt : Unit → ℕ → Zone
-zoneAt u k = record { lower = getD (u .edges) (2 * k) 0; upper = getD (u .edges) (2 * k + 1) 0 }
-
-pub next-zone : (u : Unit) (k : ℕ) → k < u .zoneCount → drop k (zones u) ≡ zoneAt u k ∷ drop (k + 1) (zones u)
+pub next-zone : (u : Unit) (k : ℕ) → k < u .zoneCount → drop k (zones u) ≡ zoneAt (u .edges) k ∷ drop (k + 1) (zones u)
 unfolding zones
 next-zone u k h =
-    drop-cons (zones u) k (zoneAt u k) (omega (arith, length-each (u .zoneCount) (zoneAt u)))
-    ∙ rw (getD-each (u .zoneCount) (zoneAt u) k (zoneAt u k) h, add-one k)
+    drop-cons (zones u) k (zoneAt (u .edges) k) (omega (arith, length-each (u .zoneCount) (zoneAt (u .edges))))
+    ∙ rw (getD-each (u .zoneCount) (zoneAt (u .edges)) k (zoneAt (u .edges) k) h, add-one k)

@@ -111,10 +111,14 @@ module _ (u : Unit) (p : Packable u) where
 
 -- ---- back
 
+pub body-eight : (s : List ℕ) → EightEdges (unitOfBody s)
+unfolding unitOfBody
+body-eight s = refl
+
 module _ (s : List ℕ) (e : bodyVerdict s ≡ Accepted) where
   pub body-packable : Packable (unitOfBody s)
-  unfolding bodyVerdict unitOfBody
-  body-packable = let (size, unit) = simp accepts at e in record { sound = sound (unitOfBody s) unit; eight = refl }
+  unfolding bodyVerdict
+  body-packable = let (size, unit) = simp accepts at e in record { sound = sound (unitOfBody s) unit; eight = body-eight s }
 
   pub body-length : length s ≡ bodyLength (unitOfBody s .zoneCount)
   unfolding bodyVerdict

@@ -74,6 +74,10 @@ abbrev pub Among : ℕ → List ℕ → Type 0
 Among p [] = ⊥
 Among p (q ∷ qs) = (p ≡ q) ⊎ Among p qs
 
+pub none-among : (ps : List ℕ) → ((p : ℕ) → Among p ps → ⊥) → ps ≡ []
+none-among [] h = refl
+none-among (p ∷ ps) h = absurd (h p (inl refl))
+
 -- each is greater than the one before, the first greater than b
 abbrev pub AscendsAbove : ℕ → List ℕ → Type 0
 AscendsAbove b [] = record {}

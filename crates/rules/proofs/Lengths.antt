@@ -1,11 +1,10 @@
 -- "Every length is at least 30, every number below it": a C caller can tell the two apart. And no length is above 92, or 1,480 of a file.
 use mathlib.Core.Path.{_≡_, refl}
-use mathlib.Core.List.{List, [], _∷_, map}
+use mathlib.Core.List.{List, [], _∷_}
 use Prim.Native.Nat.{ℕ, _*_, _≤_, _<_}
 use native.Mathlib.Omega.{arith}
 use lib.ListN.{length}
-use Rattle.rules.specs.Lists.{sum}
-use Rattle.rules.specs.Layout.{Unit, unitOfBody, bodyLength, count, body, caseOf, unitsOfRows}
+use Rattle.rules.specs.Layout.{Unit, count, unitAt, caseOf, bodiesLength, unitsOfRows}
 use Rattle.rules.specs.Refusal.{numberOf}
 use Rattle.rules.specs.Unit.{problemOf}
 use Rattle.rules.specs.Bisection.{solve}
@@ -65,7 +64,7 @@ replied-when (Refused r) file reply n e = absurd (let z : _≡_ {A = ℕ} 0 1 = 
 
 units-count : (file : List ℕ) → length (caseOf file .units) ≡ count file
 unfolding caseOf
-units-count file = length-each (count file) (λ i. unitOfBody (body file i))
+units-count file = length-each (count file) (unitAt file)
 
 pub replied-length : (file reply : List ℕ) (n : ℕ) → dispatched file reply .answer ≡ Dispatched.Replied n → (30 ≤ n) × (n ≤ 92)
 unfolding dispatched dispatchVerdict
@@ -78,7 +77,7 @@ replied-length file reply n e =
     let number = reply-count c sounds (omega (arith, units-count file, s .count-greatest)) solves in
     omega (arith, long, length-reply (solve (problemOf c)), number, units-count file, s .count-least, s .count-greatest)
 
-bodies-length : (us : List Unit) → Every Packable us → (26 * length us ≤ sum (map (λ u. bodyLength (u .zoneCount)) us)) × (sum (map (λ u. bodyLength (u .zoneCount)) us) ≤ 42 * length us)
+bodies-length : (us : List Unit) → Every Packable us → (26 * length us ≤ bodiesLength us) × (bodiesLength us ≤ 42 * length us)
 bodies-length [] p = omega arith
 bodies-length (u ∷ us) p = omega (arith, bodies-length us (p .1), p .0 .sound .zoneCount)
 

@@ -9,7 +9,7 @@ use lib.ListN.{length, getD}
 use lib.Seq.{drop-cons}
 use borrow.Author.Tests.{lt-ltb}
 use Rattle.fields.specs.Field.{numberAfter, field}
-use Rattle.rules.specs.Layout.{Unit, Zone, zones, edgeOfBody, unitOfBody, bodyLength, body}
+use Rattle.rules.specs.Layout.{Unit, zoneAt, zones, edgeOfBody, unitOfBody, bodyLength, body}
 use Rattle.rules.specs.Refusal.{fileVerdict, bodyVerdict}
 use Rattle.rules.specs.Unit.{permitted, strictlyInside}
 use Rattle.rules.specs.Undoing.{twoBytes, ZoneObeyedOrFileRefused}
@@ -33,9 +33,8 @@ field-two s at h =
 inside-none : (u : Unit) (p k : ℕ) → 0 < p → k < u .zoneCount → permitted u p ≡ true → getD (u .edges) (2 * k) 0 < p → p < getD (u .edges) (2 * k + 1) 0 → ⊥
 unfolding zones
 inside-none u p k h j e l r =
-    let zone : ℕ → Zone = λ n. record { lower = getD (u .edges) (2 * n) 0; upper = getD (u .edges) (2 * n + 1) 0 } in
-    let out = all-each (λ z. not (strictlyInside p z)) (u .zoneCount) zone .0 (runs-permitted u p h .0 e .outside) k j in
-    let ins : strictlyInside p (zone k) ≡ true = simp (lt-ltb _ _ l, lt-ltb _ _ r) in
+    let out = all-each (λ z. not (strictlyInside p z)) (u .zoneCount) (zoneAt (u .edges)) .0 (runs-permitted u p h .0 e .outside) k j in
+    let ins : strictlyInside p (zoneAt (u .edges) k) ≡ true = simp (lt-ltb _ _ l, lt-ltb _ _ r) in
     true≢false (sym out ∙ ap not ins)
 
 module _ (s : List ℕ) (accepted : bodyVerdict s ≡ Accepted) (k : ℕ) (j : k < twoBytes s 24) where

@@ -12,7 +12,7 @@ use Rattle.rules.specs.Layout.{Unit, zones}
 use Rattle.rules.specs.Unit.{permitted, runningOutput, strictlyInside, inRampWindow, offer}
 use Rattle.rules.specs.Choice.{pricedCost, choiceOf, choice}
 use Rattle.rules.proofs.Lists.{and-true, eqb-is-true}
-use Rattle.rules.proofs.Chosen.{Chosen, Among, Ascends, AscendsAbove, alike, scanned}
+use Rattle.rules.proofs.Chosen.{Chosen, Among, none-among, Ascends, AscendsAbove, alike, scanned}
 
 -- ---- the elements of a list of which a test holds
 
@@ -130,11 +130,7 @@ permitted-offered u p h = kept (permitted u) p (each (suc (u .greatest)) (λ p. 
 -- ---- the choice
 
 pub offers-none : (u : Unit) → ((p : ℕ) → permitted u p ≡ true → ⊥) → offer u .outputs ≡ []
-offers-none u none = by (offer u .outputs) (λ p i. none p (offered-permitted u p i))
-  where
-    by : (ps : List ℕ) → ((p : ℕ) → Among p ps → ⊥) → ps ≡ []
-    by [] h = refl
-    by (p ∷ ps) h = absurd (h p (inl refl))
+offers-none u none = none-among (offer u .outputs) (λ p i. none p (offered-permitted u p i))
 
 -- a unit's choice at m, where it has a permitted output
 pub choice-chosen : (m : ℕ) (u : Unit) (p : ℕ) → permitted u p ≡ true → Chosen (pricedCost m u) (λ q. permitted u q ≡ true) (choice m (offer u))

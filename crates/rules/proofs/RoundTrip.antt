@@ -4,25 +4,22 @@ use native.Mathlib.Nat.{zero-add, add-zero, add-assoc}
 use native.Mathlib.Omega.{arith}
 use mathlib.Core.Path.{_≡_, refl, sym, ap, ap₂, _∙_}
 use mathlib.Core.Bool.{true}
-use mathlib.Core.List.{List, [], _∷_, _++_, append-assoc, map}
+use mathlib.Core.List.{List, [], _∷_, _++_, append-assoc}
 use lib.ListN.{length, getD, take, drop, length-append, take-append-drop}
 use lib.Seq.{take-at, drop-at, drop-drop, drop-length}
 use Rattle.fields.specs.Field.{Bytes, field, bytes}
 use Rattle.fields.proofs.Width.{length-bytes}
-use Rattle.rules.specs.Lists.{each, sum}
-use Rattle.rules.specs.Layout.{Unit, unitOfBody, bodyLength, bodyOfUnit, edition, count, demand, offset, size, body, caseOf, contentsFrom, bodiesOf, fileOf}
+use Rattle.rules.specs.Lists.{each}
+use Rattle.rules.specs.Layout.{Unit, unitOfBody, bodyLength, bodyOfUnit, edition, count, demand, offset, size, body, unitAt, caseOf, contentsFrom, bodiesOf, bodiesLength, fileOf}
 use Rattle.rules.specs.Refusal.{start, legalSize, fileVerdict}
 use Rattle.rules.specs.Calls.{fileLength}
 use Rattle.rules.specs.declared.Verdict.the-variants.{Accepted}
 use Rattle.rules.proofs.Lists.{Every, every-at, length-each, each-same, each-from, each-getD}
 use Rattle.rules.proofs.Pieces.{Piece, Fits, spell, pieces, read-piece, read-behind, spell-pieces}
 use Rattle.rules.proofs.Body.{Packable, length-body, unit-body-unit, body-accepted}
-use Rattle.rules.proofs.SoundFile.{SoundFile, sound-file, sound-file-accepted, unitAt, start-next, size-at, body-at, units-packable}
+use Rattle.rules.proofs.SoundFile.{SoundFile, sound-file, sound-file-accepted, start-next, size-at, body-at, units-packable}
 
 -- ---- where the bodies stand
-
-abbrev pub bodyLengths : List Unit → ℕ
-bodyLengths us = sum (map (λ u. bodyLength (u .zoneCount)) us)
 
 -- the place of body i, where the first one starts at a place
 abbrev pub startFrom : ℕ → List Unit → ℕ → ℕ
@@ -35,9 +32,9 @@ start-from-next at [] i d h = absurd (omega arith)
 start-from-next at (u ∷ us) zero d h = refl
 start-from-next at (u ∷ us) (suc i) d h = start-from-next (at + bodyLength (u .zoneCount)) us i d (omega arith)
 
-pub start-from-last : (at : ℕ) (us : List Unit) → startFrom at us (length us) ≡ at + bodyLengths us
+pub start-from-last : (at : ℕ) (us : List Unit) → startFrom at us (length us) ≡ at + bodiesLength us
 start-from-last at [] = sym (add-zero at)
-start-from-last at (u ∷ us) = start-from-last (at + bodyLength (u .zoneCount)) us ∙ add-assoc at (bodyLength (u .zoneCount)) (bodyLengths us)
+start-from-last at (u ∷ us) = start-from-last (at + bodyLength (u .zoneCount)) us ∙ add-assoc at (bodyLength (u .zoneCount)) (bodiesLength us)
 
 -- ---- lengths
 
@@ -46,7 +43,7 @@ unfolding contentsFrom
 length-contents at [] = refl
 length-contents at (u ∷ us) = simp (length-append, length-bytes, length-contents (at + bodyLength (u .zoneCount)) us) (omega arith)
 
-pub length-bodies : (us : List Unit) → Every Packable us → length (bodiesOf us) ≡ bodyLengths us
+pub length-bodies : (us : List Unit) → Every Packable us → length (bodiesOf us) ≡ bodiesLength us
 unfolding bodiesOf
 length-bodies [] p = refl
 length-bodies (u ∷ us) p = simp (length-append, length-body u (p .0), length-bodies us (p .1))

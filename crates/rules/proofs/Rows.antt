@@ -6,7 +6,7 @@ use mathlib.Core.List.{List, [], _∷_, _++_}
 use lib.ListN.{length, getD, take, drop, length-append, length-drop, take-append-drop}
 use lib.Seq.{take-all, take-at, drop-at, drop-drop, length-take-le, take-add}
 use Rattle.rules.specs.Lists.{each}
-use Rattle.rules.specs.Layout.{Unit, unitOfRow, rowOfUnit, unitsOfRows, rowsOfUnits}
+use Rattle.rules.specs.Layout.{Unit, unitOfRow, rowOfUnit, rowAt, unitInRow, unitsOfRows, rowsOfUnits}
 use Rattle.rules.proofs.Lists.{Every, each-same, each-take, every-each}
 
 abbrev pub EightEdges : Unit → Type 0
@@ -25,7 +25,7 @@ pub unit-row-unit : (u : Unit) → EightEdges u → unitOfRow (rowOfUnit u) ≡ 
 unfolding unitOfRow rowOfUnit
 unit-row-unit u e = rw (take-all 8 (u .edges) (omega arith))
 
-length-row : (u : Unit) → EightEdges u → length (rowOfUnit u) ≡ 19
+pub length-row : (u : Unit) → EightEdges u → length (rowOfUnit u) ≡ 19
 unfolding rowOfUnit
 length-row u e = omega arith
 
@@ -35,23 +35,19 @@ row-eight row e = length-take-le 8 (drop 11 row) (simp length-drop (omega arith)
 
 -- ---- rows one behind the other
 
--- row i of a list
-abbrev pub rowAt : List ℕ → ℕ → List ℕ
-rowAt rows i = take 19 (drop (19 * i) rows)
-
-length-rowAt : (rows : List ℕ) (n i : ℕ) → 19 * n ≤ length rows → i < n → length (rowAt rows i) ≡ 19
+pub length-rowAt : (rows : List ℕ) (n i : ℕ) → 19 * n ≤ length rows → i < n → length (rowAt rows i) ≡ 19
 length-rowAt rows n i h k = length-take-le 19 (drop (19 * i) rows) (simp length-drop (omega arith))
 
 -- the rows behind the first
 rows-later : (rows : List ℕ) (i : ℕ) → rowAt rows (suc i) ≡ rowAt (drop 19 rows) i
 rows-later rows i = let e : 19 * suc i ≡ 19 + 19 * i = omega arith in rw (e, drop-drop)
 
-rows-front : (rows : List ℕ) (n : ℕ) → 19 * n ≤ length rows → rowsOfUnits (each n (λ i. unitOfRow (rowAt rows i))) ≡ take (19 * n) rows
+rows-front : (rows : List ℕ) (n : ℕ) → 19 * n ≤ length rows → rowsOfUnits (each n (unitInRow rows)) ≡ take (19 * n) rows
 unfolding rowsOfUnits
 rows-front rows zero h = refl
 rows-front rows (suc n) h =
-    let later : each n (λ i. unitOfRow (rowAt rows (suc i))) ≡ each n (λ i. unitOfRow (rowAt (drop 19 rows) i)) =
-    each-same n (λ i. unitOfRow (rowAt rows (suc i))) (λ i. unitOfRow (rowAt (drop 19 rows) i)) (λ i k. ap unitOfRow (rows-later rows i)) in
+    let later : each n (λ i. unitInRow rows (suc i)) ≡ each n (unitInRow (drop 19 rows)) =
+    each-same n (λ i. unitInRow rows (suc i)) (unitInRow (drop 19 rows)) (λ i k. ap unitOfRow (rows-later rows i)) in
     let e : 19 * suc n ≡ 19 + 19 * n = omega arith in
     rw (later, e, take-add 19 (19 * n) rows, row-unit-row (take 19 rows) (length-rowAt rows (suc n) 0 h (omega arith)), rows-front (drop 19 rows) n (simp length-drop (omega arith)))
 
@@ -66,7 +62,7 @@ unfolding rowsOfUnits
 length-rows [] p = refl
 length-rows (u ∷ us) p = simp (length-append, length-row u (p .0), length-rows us (p .1)) (omega arith)
 
-rows-read : (us : List Unit) → Every EightEdges us → each (length us) (λ i. unitOfRow (rowAt (rowsOfUnits us) i)) ≡ us
+rows-read : (us : List Unit) → Every EightEdges us → each (length us) (unitInRow (rowsOfUnits us)) ≡ us
 unfolding rowsOfUnits
 rows-read [] p = refl
 rows-read (u ∷ us) p =
@@ -74,8 +70,8 @@ rows-read (u ∷ us) p =
     let long : length (rowOfUnit u) ≡ 19 = length-row u (p .0) in
     let first : unitOfRow (take 19 (rowOfUnit u ++ rest)) ≡ u = rw (take-at (rowOfUnit u) rest 19 long) (unit-row-unit u (p .0)) in
     let behind : drop 19 (rowOfUnit u ++ rest) ≡ rest = drop-at (rowOfUnit u) rest 19 long in
-    let later : each (length us) (λ i. unitOfRow (rowAt (rowOfUnit u ++ rest) (suc i))) ≡ each (length us) (λ i. unitOfRow (rowAt rest i)) =
-    each-same (length us) (λ i. unitOfRow (rowAt (rowOfUnit u ++ rest) (suc i))) (λ i. unitOfRow (rowAt rest i))
+    let later : each (length us) (λ i. unitInRow (rowOfUnit u ++ rest) (suc i)) ≡ each (length us) (unitInRow rest) =
+    each-same (length us) (λ i. unitInRow (rowOfUnit u ++ rest) (suc i)) (unitInRow rest)
     (λ i k. ap unitOfRow (rows-later (rowOfUnit u ++ rest) i ∙ ap (λ (s : List ℕ). rowAt s i) behind)) in
     ap₂ (λ (v : Unit) (vs : List Unit). v ∷ vs) first (later ∙ rows-read us (p .1))
 
@@ -89,4 +85,4 @@ units-rows-units us p =
 pub rows-eight : (rows : List ℕ) → Every EightEdges (unitsOfRows rows)
 unfolding unitsOfRows
 rows-eight rows =
-    every-each EightEdges (length rows / 19) (λ i. unitOfRow (rowAt rows i)) (λ i h. row-eight (rowAt rows i) (length-rowAt rows (length rows / 19) i (omega arith) h))
+    every-each EightEdges (length rows / 19) (unitInRow rows) (λ i h. row-eight (rowAt rows i) (length-rowAt rows (length rows / 19) i (omega arith) h))

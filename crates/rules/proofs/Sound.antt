@@ -9,7 +9,7 @@ use lib.Dec.{eqb}
 use lib.ListN.{getD, drop}
 use lib.Seq.{getD-drop}
 use borrow.Author.Tests.{eqb-true, eq-eqb}
-use Rattle.rules.specs.Layout.{Unit, Zone, zones}
+use Rattle.rules.specs.Layout.{Unit, Zone, zoneAt, zones}
 use Rattle.rules.specs.Refusal.{zonesAscend, unusedEdgesZero, unitVerdict}
 use Rattle.rules.specs.declared.Verdict.the-variants.{Accepted}
 use Rattle.rules.proofs.Lists.{Every, every-from, each-every, every-more, all-every, accepts}
@@ -106,10 +106,10 @@ ascending low high (z ∷ zs) e =
 
 module _ {u : Unit} (s : Sound u) where
   -- both edges of zone k
-  pub zone-between : (k : ℕ) → k < u .zoneCount → Between (u .least) (record { lower = getD (u .edges) (2 * k) 0; upper = getD (u .edges) (2 * k + 1) 0 }) (u .greatest)
+  pub zone-between : (k : ℕ) → k < u .zoneCount → Between (u .least) (zoneAt (u .edges) k) (u .greatest)
   unfolding zones
   zone-between k h =
-      each-every (λ z. Between (u .least) z (u .greatest)) (u .zoneCount) (λ j. record { lower = getD (u .edges) (2 * j) 0; upper = getD (u .edges) (2 * j + 1) 0 })
+      each-every (λ z. Between (u .least) z (u .greatest)) (u .zoneCount) (zoneAt (u .edges))
       (ascending (u .least) (u .greatest) (zones u) (s .ascend) .1) k h
 
   -- an edge in use lies between least and greatest

@@ -9,7 +9,7 @@ use lib.ListN.{length, drop, length-drop}
 use lib.Seq.{length-take-le}
 use Rattle.fields.specs.Field.{Bytes}
 use Rattle.fields.proofs.Width.{bytes-part}
-use Rattle.rules.specs.Layout.{Unit, unitOfBody, bodyLength, bodyOfUnit, edition, count, demand, offset, size, body, caseOf}
+use Rattle.rules.specs.Layout.{bodyLength, bodyOfUnit, edition, count, demand, offset, size, body, unitAt, caseOf}
 use Rattle.rules.specs.Refusal.{start, legalSize, entryFits, headVerdict, contentsVerdict, bodyVerdict, fileVerdict}
 use Rattle.rules.specs.declared.Verdict.the-variants.{Accepted}
 use Rattle.rules.proofs.Lists.{Every, every-each, all-each, in-order-each, accepts}
@@ -59,10 +59,6 @@ module _ (file : List ℕ) where
       )
 
 -- ---- the bodies of a sound file
-
--- unit i of a file
-abbrev pub unitAt : List ℕ → ℕ → Unit
-unitAt file i = unitOfBody (body file i)
 
 module _ {file : List ℕ} (s : SoundFile file) where
   -- each body starts where the one before ends

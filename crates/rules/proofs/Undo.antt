@@ -6,7 +6,7 @@ use mathlib.Core.List.{List, map}
 use lib.ListN.{length, take, drop}
 use lib.Seq.{take-at}
 use Rattle.fields.specs.Field.{Bytes}
-use Rattle.rules.specs.Layout.{Unit, Case, count, demand, caseOf, unitsOfRows, rowsOfUnits, fileOf}
+use Rattle.rules.specs.Layout.{Unit, Case, count, demand, unitAt, caseOf, unitsOfRows, rowsOfUnits, fileOf}
 use Rattle.rules.specs.Refusal.{inOrder, unitVerdict, fileVerdict}
 use Rattle.rules.specs.Calls.{over, fileLength, PackResult, packVerdict, packEnds, packed, UnpackResult, unpackVerdict, unpackEnds, unpacked}
 use Rattle.rules.specs.Undoing.{PackedFileIsAccepted, UnpackingUndoesPacking, PackingUndoesUnpacking}
@@ -18,7 +18,7 @@ use Rattle.rules.proofs.Lists.{Every, every-both, every-more, every-map
 use Rattle.rules.proofs.Sound.{sound, sound-accepted}
 use Rattle.rules.proofs.Rows.{EightEdges, rows-units-rows, units-rows-units, length-rows, rows-eight}
 use Rattle.rules.proofs.Body.{Packable}
-use Rattle.rules.proofs.SoundFile.{sound-file, unitAt}
+use Rattle.rules.proofs.SoundFile.{sound-file}
 use Rattle.rules.proofs.RoundTrip.{length-file, file-accepted, case-file-case, file-case-file, accepted-units}
 
 -- ---- accepted rows

@@ -7,8 +7,7 @@ use lib.Dec.{ltb, eqb}
 use lib.IntN.{ℤ, pos}
 use lib.ListN.{length, drop}
 use Rattle.fields.specs.Field.{bytes, bytesOfEach}
-use Rattle.rules.specs.Lists.{sum}
-use Rattle.rules.specs.Layout.{Unit, caseOf, unitsOfRows, rowsOfUnits, bodyLength, fileOf}
+use Rattle.rules.specs.Layout.{Unit, caseOf, unitsOfRows, rowsOfUnits, bodiesLength, fileOf}
 use Rattle.rules.specs.Refusal.{numberOf, _refuses_, _then_, inOrder, fileVerdict, unitVerdict}
 use Rattle.rules.specs.Unit.{Problem, problemOf, unitsOf, totalNet, covers}
 use Rattle.rules.specs.Choice.{choices, dualValue}
@@ -87,7 +86,7 @@ pub record PackResult : Type 0 where
 
 -- the length of `fileOf` for some units: head, contents, bodies (`RoundTrip.length-file`)
 abbrev pub fileLength : List Unit → ℕ
-fileLength us = 8 + 4 * length us + sum (map (λ u. bodyLength (u .zoneCount)) us)
+fileLength us = 8 + 4 * length us + bodiesLength us
 
 unfoldable pub packVerdict : ℕ → List ℕ → List ℕ → Verdict
 packVerdict d rows file =

@@ -1,11 +1,11 @@
 -- Document 01, "The case file": a unit, the planner's row and the file's body that spell it, and the whole file. Fields are big-endian (`fields`).
 use Prim.Native.Nat.{ℕ, _+_, _*_, _/_}
 use mathlib.Core.Bool.{cond}
-use mathlib.Core.List.{List, [], _∷_, _++_}
+use mathlib.Core.List.{List, [], _∷_, _++_, map}
 use lib.Dec.{ltb}
 use lib.ListN.{length, getD, take, drop}
 use Rattle.fields.specs.Field.{field, bytes, bytesOfEach}
-use Rattle.rules.specs.Lists.{each}
+use Rattle.rules.specs.Lists.{each, sum}
 
 -- A unit is a generating unit (a set): the nineteen numbers of a row, by name. Outputs are in steps, the resolution of 0.1 MW.
 pub record Unit : Type 0 where
@@ -27,9 +27,13 @@ pub record Zone : Type 0 where
   pub lower : ℕ
   pub upper : ℕ
 
--- the zones in use: as many pairs of edges as the unit's count says
+-- zone k, counted from 0: a pair of edges
+abbrev pub zoneAt : List ℕ → ℕ → Zone
+zoneAt edges k = record { lower = getD edges (2 * k) 0; upper = getD edges (2 * k + 1) 0 }
+
+-- the zones in use: as many as the unit's count says
 unfoldable pub zones : Unit → List Zone
-zones u = each (u .zoneCount) (λ k. record { lower = getD (u .edges) (2 * k) 0; upper = getD (u .edges) (2 * k + 1) 0 })
+zones u = each (u .zoneCount) (zoneAt (u .edges))
 
 -- ---- "The planner's rows are a lent list of 32-bit numbers, 19 to a unit: the eleven numbers before the edges in body order, then four pairs of edges, zero where unused."
 
@@ -54,8 +58,15 @@ unfoldable pub rowOfUnit : Unit → List ℕ
 rowOfUnit u =
     u .c0 ∷ u .c1 ∷ u .c2 ∷ u .b ∷ u .least ∷ u .greatest ∷ u .previous ∷ u .up ∷ u .down ∷ u .mark ∷ u .zoneCount ∷ u .edges
 
+-- row i, counted from 0, and its unit
+abbrev pub rowAt : List ℕ → ℕ → List ℕ
+rowAt rows i = take 19 (drop (19 * i) rows)
+
+abbrev pub unitInRow : List ℕ → ℕ → Unit
+unitInRow rows i = unitOfRow (rowAt rows i)
+
 unfoldable pub unitsOfRows : List ℕ → List Unit
-unitsOfRows rows = each (length rows / 19) (λ i. unitOfRow (take 19 (drop (19 * i) rows)))
+unitsOfRows rows = each (length rows / 19) (unitInRow rows)
 
 unfoldable pub rowsOfUnits : List Unit → List ℕ
 rowsOfUnits [] = []
@@ -116,13 +127,17 @@ size file i = field file (10 + 4 * i) 2
 abbrev pub body : List ℕ → ℕ → List ℕ
 body file i = take (size file i) (drop (offset file i) file)
 
+-- unit i of a file
+abbrev pub unitAt : List ℕ → ℕ → Unit
+unitAt file i = unitOfBody (body file i)
+
 -- A case is a dispatch problem's data: the demand and the units.
 pub record Case : Type 0 where
   pub demand : ℕ
   pub units : List Unit
 
 unfoldable pub caseOf : List ℕ → Case
-caseOf file = record { demand = demand file; units = each (count file) (λ i. unitOfBody (body file i)) }
+caseOf file = record { demand = demand file; units = each (count file) (unitAt file) }
 
 -- the entries of units whose bodies start at a place
 unfoldable pub contentsFrom : ℕ → List Unit → List ℕ
@@ -132,6 +147,10 @@ contentsFrom at (u ∷ us) = bytes 2 at ++ bytes 2 (bodyLength (u .zoneCount)) +
 unfoldable pub bodiesOf : List Unit → List ℕ
 bodiesOf [] = []
 bodiesOf (u ∷ us) = bodyOfUnit u ++ bodiesOf us
+
+-- how long the bodies are together
+abbrev pub bodiesLength : List Unit → ℕ
+bodiesLength us = sum (map (λ u. bodyLength (u .zoneCount)) us)
 
 unfoldable pub fileOf : ℕ → List Unit → List ℕ
 fileOf d us = bytes 2 1 ++ bytes 2 (length us) ++ bytes 4 d ++ contentsFrom (8 + 4 * length us) us ++ bodiesOf us

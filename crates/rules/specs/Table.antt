@@ -2,7 +2,7 @@
 -- `further` has cases that tell apart rules which the paper's table does not.
 use Prim.Native.Nat.{ℕ, _+_, _*_}
 use mathlib.Core.Bool.{Bool, true, false}
-use mathlib.Core.List.{List, [], _∷_, _++_, map}
+use mathlib.Core.List.{List, [], _∷_, map}
 use mathlib.Core.Path.{_≡_, refl}
 use lib.IntN.{ℤ, pos, negℤ}
 use lib.ListN.{length, replicate}
@@ -11,8 +11,8 @@ use Rattle.rules.specs.Layout.{Unit, zones, edgeOfBody, unitOfBody, body
 use Rattle.rules.specs.Refusal.{headVerdict, contentsVerdict, zonesAscend, unitVerdict, bodyVerdict, fileVerdict, numberOf, numberOfVerdict}
 use Rattle.rules.specs.Unit.{permitted, cost, net, totalCost, totalNet, offer, problemOf}
 use Rattle.rules.specs.Choice.{pricedCost, leastFrom, choiceOf, total, choices, dualValue, dividedUp, floor, greatestAt}
-use Rattle.rules.specs.Bisection.{Reply, step4, step3, search, greatestOutputs, solvable, found, natural, replyOf, solve}
-use Rattle.rules.specs.Calls.{DispatchResult, over, replyBytes, dispatchVerdict, dispatchEnds, dispatched, priceVerdict, priceEnds, priced, packVerdict, packEnds, packed}
+use Rattle.rules.specs.Bisection.{step4, step3, search, greatestOutputs, solvable, found, natural, replyOf, solve}
+use Rattle.rules.specs.Calls.{over, replyBytes, dispatchVerdict, dispatchEnds, dispatched, priceVerdict, priceEnds, priced, packVerdict, packEnds, packed}
 use Rattle.rules.specs.declared.Dispatched.{Dispatched}
 use Rattle.rules.specs.declared.Packed.{Packed}
 use Rattle.rules.specs.declared.Priced.{Priced}

@@ -6,7 +6,7 @@ use mathlib.Core.Logic.{_⊎_}
 use mathlib.Core.Path.{_≡_}
 use lib.ListN.{length, getD, take}
 use Rattle.fields.specs.Field.{Bytes}
-use Rattle.rules.specs.Layout.{unitOfBody, count, body}
+use Rattle.rules.specs.Layout.{count, body, unitAt}
 use Rattle.rules.specs.Refusal.{fileVerdict}
 use Rattle.rules.specs.Unit.{permitted}
 use Rattle.rules.specs.Calls.{over, packed, unpacked}
@@ -50,4 +50,4 @@ ZoneObeyedOrFileRefused =
     → i < count file
     → k < twoBytes (body file i) 24
     → ((r : Refusal) × (fileVerdict file ≡ Verdict.Refused r))
-    ⊎ ((p : ℕ) → twoBytes (body file i) (26 + 4 * k) < p → p < twoBytes (body file i) (28 + 4 * k) → permitted (unitOfBody (body file i)) p ≡ false)
+    ⊎ ((p : ℕ) → twoBytes (body file i) (26 + 4 * k) < p → p < twoBytes (body file i) (28 + 4 * k) → permitted (unitAt file i) p ≡ false)

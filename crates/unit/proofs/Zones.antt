@@ -9,7 +9,7 @@ use lib.ListN.{length, getD, drop, drop-of-length-le}
 use lib.Seq.{drop-cons}
 use borrow.Author.Tests.{lt-ltb, le-ltb, eq-eqb, ne-eqb}
 use Rattle.rules.specs.Lists.{each, all}
-use Rattle.rules.specs.Layout.{Zone}
+use Rattle.rules.specs.Layout.{zoneAt}
 use Rattle.rules.specs.Refusal.{zonesAscend}
 use Rattle.rules.proofs.Each.{rest-ends, rest-more}
 
@@ -30,9 +30,6 @@ module _ (edges : List ℕ) (k : ℕ) where
     zero-more e = rw (drop-cons edges k 0 h, eq-eqb (getD edges k 0) 0 e, add-one)
 
 -- ---- the zones in use
-
-abbrev pub zoneAt : List ℕ → ℕ → Zone
-zoneAt edges k = record { lower = getD edges (2 * k) 0; upper = getD edges (2 * k + 1) 0 }
 
 -- whether the zones from number k on ascend above `below`
 abbrev pub ascendFrom : List ℕ → ℕ → ℕ → ℕ → ℕ → Bool

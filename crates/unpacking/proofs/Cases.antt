@@ -5,7 +5,7 @@ use mathlib.Core.List.{List}
 use lib.ListN.{length}
 use borrow.Author.Tests.{lt-ltb, le-ltb}
 use Rattle.rules.specs.Lists.{each}
-use Rattle.rules.specs.Layout.{caseOf, rowsOfUnits, count, demand}
+use Rattle.rules.specs.Layout.{unitAt, caseOf, rowsOfUnits, count, demand}
 use Rattle.rules.specs.Refusal.{fileVerdict}
 use Rattle.rules.specs.Calls.{over, unpackVerdict, unpackEnds, unpacked}
 use Rattle.rules.specs.declared.Refusal.{Refusal}
@@ -13,7 +13,6 @@ use Rattle.rules.specs.declared.Refusal.the-variants.{BufferTooShort}
 use Rattle.rules.specs.declared.Verdict.the-variants.{Accepted, Refused}
 use Rattle.rules.specs.declared.Unpacked.{Unpacked}
 use Rattle.rules.proofs.Lists.{length-each}
-use Rattle.casefile.specs.Held.{unitAt}
 
 module _ (file rows : List ℕ) where
   pub unpacked-short : length rows < 608 → unpacked file rows ≡ record { answer = Unpacked.Refused BufferTooShort; rows = rows }

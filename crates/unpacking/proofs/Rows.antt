@@ -1,15 +1,16 @@
--- Rows one behind the other: the rows of one unit more, and how long a row is.
+-- Rows one behind the other: the rows of one unit more.
 use Prim.Native.Nat.{ℕ, _+_, _*_}
 use native.Mathlib.Numerals.{add-one}
 use native.Mathlib.Omega.{arith}
-use mathlib.Core.Path.{_≡_, refl, ap, sym, _∙_}
+use mathlib.Core.Path.{_≡_, ap, sym, _∙_}
 use mathlib.Core.List.{List, [], _∷_, _++_, append-assoc, append-nil}
 use lib.ListN.{length, getD}
 use Rattle.rules.specs.Lists.{each}
-use Rattle.rules.specs.Layout.{Unit, unitOfBody, rowOfUnit, rowsOfUnits}
-use Rattle.rules.proofs.Lists.{each-last, each-getD}
+use Rattle.rules.specs.Layout.{Unit, body, unitAt, rowOfUnit, rowsOfUnits}
 use Rattle.rules.specs.Calls.{over}
-use Rattle.casefile.specs.Held.{unitAt}
+use Rattle.rules.proofs.Lists.{each-last, each-getD}
+use Rattle.rules.proofs.Rows.{length-row}
+use Rattle.rules.proofs.Body.{body-eight}
 use Rattle.rules.proofs.Front.{Front, lent, givenBack, front-tail}
 
 pub eight : (edges : List ℕ) → length edges ≡ 8 → each 8 (λ i. getD edges i 0) ≡ edges
@@ -23,12 +24,8 @@ rows-snoc (v ∷ us) u = rw (rows-snoc us u, append-assoc)
 pub rows-more : (f : ℕ → Unit) (i : ℕ) → rowsOfUnits (each (i + 1) f) ≡ rowsOfUnits (each i f) ++ rowOfUnit (f i)
 rows-more f i = rw (add-one, each-last i f) (rows-snoc (each i f) (f i))
 
-pub length-row : (file : List ℕ) (i : ℕ) → length (rowOfUnit (unitAt file i)) ≡ 19
-unfolding rowOfUnit unitOfBody
-length-row file i = refl
-
 -- unit i's row, written by a callee that was lent the part from 19 i on
 pub rows-next : {s₀ s : List ℕ} (file : List ℕ) (i : ℕ) (row t : List ℕ) → Front s₀ (rowsOfUnits (each i (unitAt file))) s (19 * i) → row ≡ rowOfUnit (unitAt file i) → t ≡ over row (lent (19 * i) s) → Front s₀ (rowsOfUnits (each (i + 1) (unitAt file))) (givenBack (19 * i) s t) (19 * (i + 1))
 rows-next file i row t f r e =
     let n : 19 * (i + 1) ≡ 19 * i + 19 = omega arith in
-    rw (n, rows-more (unitAt file) i, ← r) (front-tail f t row 19 (ap length r ∙ length-row file i) e)
+    rw (n, rows-more (unitAt file) i, ← r) (front-tail f t row 19 (ap length r ∙ length-row (unitAt file i) (body-eight (body file i))) e)

@@ -5,7 +5,7 @@ use mathlib.Core.Path.{ap, sym, _∙_}
 use borrow.Author.Needs.{needs}
 use denote.Ref.{now}
 use Rattle.rules.specs.Refusal.{unitVerdict}
-use Rattle.packing.specs.Held.{unitInRow}
+use Rattle.rules.specs.Layout.{unitInRow}
 use Rattle.rules.proofs.Each.{Checked, checked-starts, checked-ends, checked-refused, checked-more}
 use Rattle.packing.proofs.check_rows.Statement.{statement}
 use Rattle.packing.proofs.check_rows.Tie as tie

@@ -4,7 +4,7 @@ use native.Mathlib.Omega.{arith}
 use mathlib.Core.Path.{_≡_, ap, _∙_}
 use lib.ListN.{length}
 use denote.Ref.{now}
-use Rattle.packing.specs.Held.{unitInRow}
+use Rattle.rules.specs.Layout.{unitInRow}
 use Rattle.packing.proofs.Lengths.{few-zones, total, total-more}
 use Rattle.packing.proofs.file_length.Statement.{statement}
 use Rattle.packing.proofs.file_length.Tie as tie

@@ -4,11 +4,10 @@ use native.Mathlib.Omega.{arith}
 use mathlib.Core.Path.{_≡_, refl, ap, _∙_}
 use lib.ListN.{length-take, length-drop, length}
 use denote.Ref.{now}
-use Rattle.rules.specs.Layout.{Unit, bodyOfUnit, bodiesOf}
+use Rattle.rules.specs.Layout.{unitInRow, Unit, bodyOfUnit, bodiesOf}
 use Rattle.rules.specs.Refusal.{unitVerdict}
 use Rattle.rules.specs.Calls.{over}
 use Rattle.rules.specs.Lists.{each}
-use Rattle.packing.specs.Held.{unitInRow}
 use Rattle.rules.proofs.Front.{lent, Front, front-none, front-length, front-over}
 use Rattle.packing.proofs.Lengths.{sizeOf, total, total-more, total-until, few-zones}
 use Rattle.packing.proofs.Written.{body-next}
@@ -67,9 +66,8 @@ loop-again c =
     let s = c .before .before .before .before .before .before .before .before .before .before in
     let l = c .before .before .before .before .before .before .before .loop in
     let rows = now (s .args .rows) in
-    let z = few-zones (s .pre .0) (l .i) (omega arith) in
     let size = c .body-length .ensures in
-    let f = rw (← size .0) at (body-next rows (l .i) (c .before .before .before .write-body .last .0) (omega arith) z (l .inv .4) (c .before .before .before .write-body .ensures ∙ ap (λ (u : Unit). over (bodyOfUnit u) (lent (l .at) (l .part))) (c .before .before .before .before .read-row .ensures))) in
+    let f = rw (← size .0) at (body-next (s .pre .0) (l .i) (omega arith) (c .before .before .before .write-body .last .0) (l .inv .4) (c .before .before .before .write-body .ensures ∙ ap (λ (u : Unit). over (bodyOfUnit u) (lent (l .at) (l .part))) (c .before .before .before .before .read-row .ensures))) in
     (omega arith, front-length f (omega (arith, room (c .before .before .before .before .before .before))), omega (arith, total-more (unitInRow rows) (l .i)), omega arith, f)
 
 same-length : tie.Need-same-length Inv-loop μ-loop

@@ -6,8 +6,7 @@ use lib.ListN.{length}
 use denote.Ref.{now}
 use Rattle.rules.specs.Calls.{over}
 use Rattle.rules.specs.Lists.{each}
-use Rattle.rules.specs.Layout.{contentsFrom}
-use Rattle.packing.specs.Held.{unitInRow}
+use Rattle.rules.specs.Layout.{unitInRow, contentsFrom}
 use Rattle.packing.proofs.Lengths.{few-zones, total, total-more}
 use Rattle.packing.proofs.Written.{entry-next}
 use Rattle.rules.proofs.Front.{Front, front-none, front-length, front-over}

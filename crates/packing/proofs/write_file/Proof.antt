@@ -4,7 +4,7 @@ use mathlib.Core.Path.{_≡_}
 use lib.ListN.{length-take, length-drop, length}
 use borrow.Author.Needs.{needs}
 use denote.Ref.{now}
-use Rattle.packing.specs.Held.{unitInRow}
+use Rattle.rules.specs.Layout.{unitInRow}
 use Rattle.rules.proofs.Front.{givenBack, front-length}
 use Rattle.packing.proofs.Written.{front-contents, file-whole}
 use Rattle.packing.proofs.write_file.Statement.{statement}

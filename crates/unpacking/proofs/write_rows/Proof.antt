@@ -4,10 +4,9 @@ use native.Mathlib.Omega.{arith}
 use mathlib.Core.Path.{_≡_, refl, ap, _∙_}
 use lib.ListN.{length-take, length-drop, length}
 use denote.Ref.{now}
-use Rattle.rules.specs.Layout.{rowOfUnit, rowsOfUnits}
+use Rattle.rules.specs.Layout.{rowOfUnit, rowsOfUnits, unitAt}
 use Rattle.rules.specs.Calls.{over}
 use Rattle.rules.specs.Lists.{each}
-use Rattle.casefile.specs.Held.{unitAt}
 use Rattle.unpacking.proofs.Rows.{rows-next}
 use Rattle.rules.proofs.Front.{Front, front-none, front-length, front-over}
 use Rattle.unpacking.proofs.write_rows.Statement.{statement}
