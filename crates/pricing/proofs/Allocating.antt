@@ -10,11 +10,9 @@ use Rattle.rules.specs.Layout.{Unit}
 use Rattle.rules.specs.Unit.{cost, net, totalCost, totalNet, Offer, Problem, unitsOf}
 use Rattle.rules.proofs.Quantities.{cost-range, net-range}
 use Rattle.pricing.specs.declared.Offer as code-offer
-use Rattle.pricing.specs.declared.Problem as code-problem
-use Rattle.pricing.specs.declared.Choice as code-choice
 use Rattle.pricing.specs.declared.Allocation as code-allocation
-use Rattle.pricing.specs.Held.{Coefficients, Prices, Holds}
-use Rattle.pricing.specs.Totals.{nothingOffered, offerAt, HoldsProblem, nothing, added, HoldsOutputs, Sized}
+use Rattle.pricing.specs.Held.{Coefficients, Holds}
+use Rattle.pricing.specs.Totals.{nothingOffered, nothing, added, HoldsOutputs, Sized}
 use Rattle.pricing.proofs.Range.{sound}
 use Rattle.pricing.proofs.Held.{cost-held, net-held}
 
@@ -31,13 +29,13 @@ sized-starts = record { cost = omega arith; net = omega arith; length = refl; re
     zeros : (i : ℕ) → 0 ≤ i → getD {A = ℕ} (replicate 32 0) i 0 ≡ 0
     zeros i h = zero-at 32 i
 
-pub sized-more : {o : code-offer.Offer} {m i : ℕ} {a : code-allocation.Allocation} {c : code-choice.Choice} → Sized i a → Coefficients o → Prices m o c → c .output ≤ 10000 → Sized (i + 1) (added a i c)
-sized-more {i = i} {a} {c} s k p h =
+pub sized-more : {o : code-offer.Offer} {i p : ℕ} {a : code-allocation.Allocation} → Sized i a → Coefficients o → p ≤ 10000 → Sized (i + 1) (added a i o p)
+sized-more {i = i} {p} {a} s k h =
     record {
-      cost = omega (arith, p .cost, cost-range (sound k) h);
-      net = omega (arith, p .net, net-range (sound k) h);
-      length = length-set (a .outputs) i (c .output) ∙ s .length;
-      rest = λ j l. getD-set-other (a .outputs) i j (c .output) 0 (λ e. omega arith) ∙ s .rest j (omega arith);
+      cost = omega (arith, cost-range (sound k) h);
+      net = omega (arith, net-range (sound k) h);
+      length = length-set (a .outputs) i p ∙ s .length;
+      rest = λ j l. getD-set-other (a .outputs) i j p 0 (λ e. omega arith) ∙ s .rest j (omega arith);
     }
 
 -- ---- the outputs that are picked, with their cost and net
@@ -57,26 +55,21 @@ module _ (pick : Offer → ℕ) (p : Problem) where
     pub cost : a .cost + totalCost (units (left i)) (picked (left i)) ≡ totalCost (unitsOf p) (picked (p .offers))
     pub net : a .net + totalNet (units (left i)) (picked (left i)) ≡ totalNet (unitsOf p) (picked (p .offers))
 
-  -- the output of unit i
-  pub record Picks (i : ℕ) (c : code-choice.Choice) : Type 0 where
-    pub output : c .output ≡ pick (getD (p .offers) i nothingOffered)
-    pub cost : c .cost ≡ cost (getD (p .offers) i nothingOffered .unit) (c .output)
-    pub net : c .net ≡ net (getD (p .offers) i nothingOffered .unit) (c .output)
-
   pub allocating-starts : Allocating nothing 0
   allocating-starts = record { outputs = refl; cost = omega arith; net = omega arith }
 
-  pub allocating-more : {a : code-allocation.Allocation} {i : ℕ} {c : code-choice.Choice} → Allocating a i → i < length (a .outputs) → i < length (p .offers) → Picks i c → Allocating (added a i c) (i + 1)
+  -- o stands for unit i, and r is what is picked of it
+  pub allocating-more : {a : code-allocation.Allocation} {o : code-offer.Offer} {i r : ℕ} → Allocating a i → i < length (a .outputs) → i < length (p .offers) → Holds o (getD (p .offers) i nothingOffered) → r ≡ pick (getD (p .offers) i nothingOffered) → Allocating (added a i o r) (i + 1)
   unfolding totalCost totalNet
-  allocating-more {a} {i} {c} s h l k =
+  allocating-more {a} {o} {i} {r} s h l k e =
       let f = getD (p .offers) i nothingOffered in
       let next : left i ≡ f ∷ left (i + 1) = drop-cons (p .offers) i nothingOffered l ∙ ap (λ (n : ℕ). f ∷ drop n (p .offers)) (sym (add-one i)) in
-      let placed : take (i + 1) (set (a .outputs) i (c .output)) ≡ take i (a .outputs) ++ (pick f ∷ []) =
-      rw (add-one i, k .output) (take-suc-set (a .outputs) i (pick f) h) in
+      let placed : take (i + 1) (set (a .outputs) i r) ≡ take i (a .outputs) ++ (pick f ∷ []) =
+      rw (add-one i, e) (take-suc-set (a .outputs) i (pick f) h) in
       record {
         outputs = rw placed (append-assoc (take i (a .outputs)) (pick f ∷ []) (picked (left (i + 1))) ∙ (rw next at (s .outputs)));
-        cost = omega (arith, k .cost, ap (cost (f .unit)) (k .output), rw next at (s .cost));
-        net = omega (arith, k .net, ap (net (f .unit)) (k .output), rw next at (s .net));
+        cost = omega (arith, cost-held k r, ap (cost (f .unit)) e, rw next at (s .cost));
+        net = omega (arith, net-held k r, ap (net (f .unit)) e, rw next at (s .net));
       }
 
   pub allocating-ends : {a : code-allocation.Allocation} {i : ℕ} → Allocating a i → i ≡ length (p .offers) → HoldsOutputs p (picked (p .offers)) a
@@ -88,12 +81,3 @@ module _ (pick : Offer → ℕ) (p : Problem) where
         cost = omega (arith, rw none at (s .cost));
         net = omega (arith, rw none at (s .net));
       }
-
--- a choice of the struct is one of the offer
-pub picks : (pick : Offer → ℕ) {q : code-problem.Problem} {p : Problem} {m i : ℕ} {c : code-choice.Choice} → HoldsProblem q p → i < q .count → Prices m (offerAt q i) c → ((f : Offer) → Holds (offerAt q i) f → c .output ≡ pick f) → Picks pick p i c
-picks pick {i = i} {c} h l k held =
-    record {
-      output = held _ (h .offers i l);
-      cost = k .cost ∙ sym (cost-held (h .offers i l) (c .output));
-      net = k .net ∙ sym (net-held (h .offers i l) (c .output));
-    }

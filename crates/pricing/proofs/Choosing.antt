@@ -1,6 +1,6 @@
 -- The choice in a region, in the regions looked at so far, and in all of them, which is the choice of the offer that the struct stands for.
-use mathlib.Core.Path.{_≡_, sym, ap, _∙_, subst, fun-ext}
-use mathlib.Core.Bool.{Bool, cond}
+use mathlib.Core.Path.{_≡_, sym, ap, subst, fun-ext}
+use mathlib.Core.Bool.{true, false}
 use mathlib.Core.List.{List, [], _∷_}
 use mathlib.Core.Logic.{_⊎_, inl, inr}
 use Prim.Native.Nat.{ℕ, _+_, _*_, _≤_, _<_}
@@ -9,55 +9,53 @@ use native.Mathlib.Omega.{arith}
 use lib.IntN.{ℤ}
 use lib.Signed.{leZ}
 use Rattle.rules.specs.Unit.{Offer, cost}
-use Rattle.rules.specs.Choice.{pricedCost, better, choiceOf, choice}
-use Rattle.rules.proofs.Cases.{either-way}
+use Rattle.rules.specs.Choice.{pricedCost, choiceOf, choice}
+use Rattle.rules.proofs.Integers.{Is, at-most, under, when-le, when-gt}
 use Rattle.rules.proofs.Quantities.{priced-is, net-whole}
-use Rattle.rules.proofs.Chosen.{Chosen, Among, Ascends, unique, alike, single, either, scanned}
+use Rattle.rules.proofs.Chosen.{Chosen, Among, Ascends, unique, alike, single, first, second, scanned}
 use Rattle.pricing.specs.declared.Offer as code-offer
-use Rattle.pricing.specs.declared.Choice as code-choice
 use Rattle.pricing.specs.Turn.{Turn}
 use Rattle.pricing.specs.Regions.{Between, Within, low, high}
-use Rattle.pricing.specs.Held.{unitOf, Coefficients, Bounded, Prices, Holds}
-use Rattle.pricing.specs.Choosing.{Turns, BestIn, Best, Chooses}
+use Rattle.pricing.specs.Held.{unitOf, Coefficients, Bounded, Holds}
+use Rattle.pricing.specs.Choosing.{Chooses}
 use Rattle.pricing.proofs.Range.{sound}
 use Rattle.pricing.proofs.Quadratic.{Quadratic, turn-chosen}
 use Rattle.pricing.proofs.Held.{priced-held}
 
 -- ---- one region
 
-module _ {o : code-offer.Offer} (s : Coefficients o) (m : ℕ) where
-  -- the priced cost of running outputs is a quadratic
-  quadratic : {from to : ℕ} → 1 ≤ from → to ≤ 10000 → Quadratic (pricedCost m (unitOf o)) (100000 * o .c2 + m * o .b) (100000 * o .c1) (100000000 * m) (100000 * o .c0) from to
-  unfolding cost
-  quadratic h k =
-      record {
-        at = λ p i. record { is = omega (arith, priced-is m (unitOf o) p, ap (λ (n : ℕ). m * n) (net-whole (sound s) {p = p} (omega arith))) };
-      }
+-- priced cost is a × p² + (s − t) × p + 100,000 × c0 with a = 100,000 × c2 + m × b, s = 100,000 × c1, t = 100,000,000 × m
+abbrev pub square : code-offer.Offer → ℕ → ℕ
+square o m = 100000 * o .c2 + m * o .b
 
-  -- output 0 alone has no step
-  pub best-in : {from to r : ℕ} → (from ≡ 0 → to ≡ 0) → to ≤ 10000 → Turn (100000 * o .c2 + m * o .b) (100000 * o .c1) (100000000 * m) from to r → Chosen (pricedCost m (unitOf o)) (Between from to) r
+abbrev pub Turns : code-offer.Offer → ℕ → ℕ → ℕ → ℕ → Type 0
+Turns o m from to r = Turn (square o m) (100000 * o .c1) (100000000 * m) from to r
+
+-- x is the priced cost of p but for the constant
+abbrev pub Height : code-offer.Offer → ℕ → ℕ → ℤ → Type 0
+Height o m p x = Is x (square o m * (p * p) + 100000 * o .c1 * p) (100000000 * m * p)
+
+module _ {o : code-offer.Offer} (s : Coefficients o) (m : ℕ) where
+  priced-at : (p : ℕ) → p ≤ 10000 → Is (pricedCost m (unitOf o) p) (square o m * (p * p) + 100000 * o .c1 * p + 100000 * o .c0) (100000000 * m * p)
+  unfolding cost
+  priced-at p h = record { is = omega (arith, priced-is m (unitOf o) p, ap (λ (n : ℕ). m * n) (net-whole (sound s) {p = p} h)) }
+
+  -- the choice in an interval of running outputs, or of output 0 alone, which has no step
+  best-in : {from to r : ℕ} → (from ≡ 0 → to ≡ 0) → to ≤ 10000 → Turns o m from to r → Chosen (pricedCost m (unitOf o)) (Between from to) r
   best-in {from} {to} {r} stands limit t = by (ℕ-discrete from 0)
     where
+      quadratic : Quadratic (pricedCost m (unitOf o)) (square o m) (100000 * o .c1) (100000000 * m) (100000 * o .c0) from to
+      quadratic = record { at = λ p i. priced-at p (omega arith) }
+
       by : Dec (from ≡ 0) → Chosen (pricedCost m (unitOf o)) (Between from to) r
       by (yes e) = alike (λ p q. omega (arith, stands e, t .from, t .to)) (λ p i. omega (arith, stands e, t .from, t .to)) (single r)
-      by (no n) = turn-chosen (quadratic (omega arith) limit) t
+      by (no n) = turn-chosen quadratic t
 
--- region k of a bounded offer
-pub region : {o : code-offer.Offer} {m v k : ℕ} → Bounded o → m ≤ 65536 → Turns o m v → k < o .regions → BestIn o m v (low o k) (high o k)
-region {k = k} s h t l =
-    record {
-      coefficients = s .coefficients;
-      multiplier = h;
-      turns = t;
-      order = s .order k l;
-      limit = s .limit k l;
-      stands = s .stands k l;
-    }
+-- ---- the first k regions: their choice, and its height
 
--- ---- the first k regions
-
-abbrev pub Choosing : code-offer.Offer → ℕ → ℕ → code-choice.Choice → Type 0
-Choosing o m k c = Chosen (pricedCost m (unitOf o)) (Within o k) (c .output) × Prices m o c
+pub record Choosing (o : code-offer.Offer) (m k best : ℕ) (least : ℤ) : Type 0 where
+  pub chosen : Chosen (pricedCost m (unitOf o)) (Within o k) best
+  pub height : Height o m best least
 
 module _ {o : code-offer.Offer} (s : Bounded o) (m : ℕ) where
   within : {k p : ℕ} → Within o k p ⊎ Between (low o k) (high o k) p → Within o (k + 1) p
@@ -71,44 +69,52 @@ module _ {o : code-offer.Offer} (s : Bounded o) (m : ℕ) where
       by (yes e) = inr (subst (λ (n : ℕ). Between (low o n) (high o n) p) e (w .inside))
       by (no n) = inl (record { region = w .region; below = omega (arith, w .below); inside = w .inside })
 
-  pub choosing-starts : {c : code-choice.Choice} → Best o m (low o 0) (high o 0) c → Choosing o m 1 c
-  choosing-starts b = (alike (λ p i. record { region = 0; below = omega arith; inside = i }) (λ p w. back p (split {k = 0} w)) (b .chosen), b .prices)
+  in-region : {k r : ℕ} → k < o .regions → Turns o m (low o k) (high o k) r → Chosen (pricedCost m (unitOf o)) (Between (low o k) (high o k)) r
+  in-region {k} l t = best-in (s .coefficients) m (s .stands k l) (s .limit k l) t
+
+  pub choosing-starts : {r : ℕ} {x : ℤ} → 0 < o .regions → Turns o m (low o 0) (high o 0) r → Height o m r x → Choosing o m 1 r x
+  choosing-starts l t h = record { chosen = alike (λ p i. record { region = 0; below = omega arith; inside = i }) (λ p w. back p (split {k = 0} w)) (in-region l t); height = h }
     where
       back : (p : ℕ) → Within o 0 p ⊎ Between (low o 0) (high o 0) p → Between (low o 0) (high o 0) p
       back p (inl w) = absurd (omega (arith, w .below))
       back p (inr i) = i
 
-  pub choosing-more : {k : ℕ} {a b r : code-choice.Choice} → k < o .regions → Choosing o m k a → Best o m (low o k) (high o k) b → r ≡ cond (leZ (b .priced) (a .priced)) b a → Choosing o m (k + 1) r
-  choosing-more {k} {a} {b} h c d e =
-      subst (Choosing o m (k + 1)) (sym e) (either-way (Choosing o m (k + 1)) (leZ (b .priced) (a .priced)) (λ t. (better-is t, d .prices)) (λ t. (better-is t, c .1)))
-    where
-      apart : (p q : ℕ) → Within o k p → Between (low o k) (high o k) q → p < q
-      apart p q w i = omega (arith, w .inside, s .apart (w .region) k (w .below) h)
+  module _ {k best p : ℕ} {least x : ℤ} (l : k < o .regions) (c : Choosing o m k best least) (t : Turns o m (low o k) (high o k) p) (h : Height o m p x) where
+    apart : (i j : ℕ) → Within o k i → Between (low o k) (high o k) j → i < j
+    apart i j w b = omega (arith, w .inside, s .apart (w .region) k (w .below) l)
 
-      of-both : Chosen (pricedCost m (unitOf o)) (Within o (k + 1)) (better (pricedCost m (unitOf o)) (a .output) (b .output))
-      of-both = alike (λ p. within) (λ p. split) (either (c .0) (d .chosen) apart)
+    priced-best : Is (pricedCost m (unitOf o) best) (square o m * (best * best) + 100000 * o .c1 * best + 100000 * o .c0) (100000000 * m * best)
+    priced-best = let w = c .chosen .candidate in priced-at (s .coefficients) m best (omega (arith, w .inside, s .limit (w .region) (omega (arith, w .below))))
 
-      test : leZ (pricedCost m (unitOf o) (b .output)) (pricedCost m (unitOf o) (a .output)) ≡ leZ (b .priced) (a .priced)
-      test = rw (d .prices .priced, c .1 .priced)
+    priced-next : Is (pricedCost m (unitOf o) p) (square o m * (p * p) + 100000 * o .c1 * p + 100000 * o .c0) (100000000 * m * p)
+    priced-next = priced-at (s .coefficients) m p (omega (arith, t .to, s .limit k l))
 
-      better-is : {t : Bool} → leZ (b .priced) (a .priced) ≡ t → Chosen (pricedCost m (unitOf o)) (Within o (k + 1)) (cond t (b .output) (a .output))
-      better-is {t} e = subst (λ (t : Bool). Chosen (pricedCost m (unitOf o)) (Within o (k + 1)) (cond t (b .output) (a .output))) (test ∙ e) of-both
+    -- the next region's costs no more, or more
+    pub choosing-next : leZ x least ≡ true → Choosing o m (k + 1) p x
+    choosing-next e =
+        let n = when-le h (c .height) e in
+        record { chosen = alike (λ i. within) (λ i. split) (second (c .chosen) (in-region l t) apart (at-most priced-next priced-best (omega arith))); height = h }
+
+    pub choosing-same : leZ x least ≡ false → Choosing o m (k + 1) best least
+    choosing-same e =
+        let n = when-gt h (c .height) e in
+        record { chosen = alike (λ i. within) (λ i. split) (first (c .chosen) (in-region l t) apart (under priced-best priced-next (omega arith))); height = c .height }
 
   -- ---- all regions
 
-  pub choosing-ends : {c : code-choice.Choice} → Choosing o m (o .regions) c → Chooses o m c
-  choosing-ends {c} h =
-      let w = h .0 .candidate in
-      record { output = omega (arith, s .limit (w .region) (w .below)); prices = h .1; held = λ f e. (held f e, h .1 .priced ∙ sym (priced-held e (c .output) m) ∙ ap (pricedCost m (f .unit)) (held f e)) }
+  pub choosing-ends : {r : ℕ} {x : ℤ} → Choosing o m (o .regions) r x → Chooses o m r
+  choosing-ends {r} h =
+      let w = h .chosen .candidate in
+      record { output = omega (arith, w .inside, s .limit (w .region) (w .below)); held = held }
     where
-      held : (f : Offer) → Holds o f → c .output ≡ choice m f
+      held : (f : Offer) → Holds o f → r ≡ choice m f
       held f e = by (f .outputs) (e .ascends) of-list
         where
-          of-list : Chosen (pricedCost m (f .unit)) (λ p. Among p (f .outputs)) (c .output)
+          of-list : Chosen (pricedCost m (f .unit)) (λ p. Among p (f .outputs)) r
           of-list =
-              subst (λ (g : ℕ → ℤ). Chosen g (λ p. Among p (f .outputs)) (c .output)) (sym (fun-ext (λ p. priced-held e p m)))
-              (alike (e .offered) (e .inside) (h .0))
+              subst (λ (g : ℕ → ℤ). Chosen g (λ p. Among p (f .outputs)) r) (sym (fun-ext (λ p. priced-held e p m)))
+              (alike (e .offered) (e .inside) (h .chosen))
 
-          by : (ps : List ℕ) → Ascends ps → Chosen (pricedCost m (f .unit)) (λ p. Among p ps) (c .output) → c .output ≡ choiceOf (pricedCost m (f .unit)) ps
+          by : (ps : List ℕ) → Ascends ps → Chosen (pricedCost m (f .unit)) (λ p. Among p ps) r → r ≡ choiceOf (pricedCost m (f .unit)) ps
           by [] a d = absurd (d .candidate)
           by (p ∷ ps) a d = unique d (scanned (pricedCost m (f .unit)) p ps a)

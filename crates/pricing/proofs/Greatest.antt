@@ -1,16 +1,14 @@
 -- The loop that gives every unit its greatest output.
-use mathlib.Core.Path.{_≡_, subst, _∙_}
+use mathlib.Core.Path.{_≡_, subst}
 use Prim.Native.Nat.{ℕ, _+_, _≤_, _<_}
 use native.Mathlib.Omega.{arith}
 use Rattle.rules.specs.Lists.{greatest}
 use Rattle.rules.specs.Unit.{Offer, Problem}
 use Rattle.rules.specs.Bisection.{greatestOutputs}
 use Rattle.pricing.specs.declared.Problem as code-problem
-use Rattle.pricing.specs.declared.Choice as code-choice
 use Rattle.pricing.specs.declared.Allocation as code-allocation
-use Rattle.pricing.specs.Held.{Prices}
 use Rattle.pricing.specs.Totals.{offerAt, BoundedProblem, HoldsProblem, nothing, added, Sized, GreatestOutput, GreatestOutputs}
-use Rattle.pricing.proofs.Allocating.{Allocating, sized-starts, sized-more, allocating-starts, allocating-more, allocating-ends, picks}
+use Rattle.pricing.proofs.Allocating.{Allocating, sized-starts, sized-more, allocating-starts, allocating-more, allocating-ends}
 
 abbrev last : Offer → ℕ
 last f = greatest (f .outputs)
@@ -24,16 +22,16 @@ pub raising-starts : (q : code-problem.Problem) → Raising q nothing 0
 raising-starts q = record { within = omega arith; sized = sized-starts; held = λ p h. allocating-starts last p }
 
 module _ {q : code-problem.Problem} (b : BoundedProblem q) {a : code-allocation.Allocation} {i : ℕ} (s : Raising q a i) where
-  module _ (l : i < q .count) {r m : ℕ} {c : code-choice.Choice} (g : GreatestOutput (offerAt q i) r) (e : c .output ≡ r) (k : Prices m (offerAt q i) c) where
-    pub more-sized : Sized (i + 1) (added a i c)
-    more-sized = sized-more (s .sized) (b .offers i l .coefficients) k (omega (arith, g .limit))
+  module _ (l : i < q .count) {r : ℕ} (g : GreatestOutput (offerAt q i) r) where
+    pub more-sized : Sized (i + 1) (added a i (offerAt q i) r)
+    more-sized = sized-more (s .sized) (b .offers i l .coefficients) (g .limit)
 
-    pub raising-more : Raising q (added a i c) (i + 1)
+    pub raising-more : Raising q (added a i (offerAt q i) r) (i + 1)
     raising-more =
         record {
           within = omega arith;
           sized = more-sized;
-          held = λ p h. allocating-more last p (s .held p h) (omega (arith, s .sized .length, b .count)) (omega (arith, h .count)) (picks last h l k (λ f o. e ∙ g .held f o));
+          held = λ p h. allocating-more last p (s .held p h) (omega (arith, s .sized .length, b .count)) (omega (arith, h .count)) (h .offers i l) (g .held _ (h .offers i l));
         }
 
   pub raising-ends : i ≡ q .count → GreatestOutputs q a

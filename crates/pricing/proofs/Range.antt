@@ -1,15 +1,14 @@
 -- The range of all that is computed of one output, for `omega`, which bounds no product itself: `omega (arith, range (c .pre))`.
 use mathlib.Core.Path.{refl}
-use Prim.Native.Nat.{ℕ, _*_, _-_, _≤_}
+use Prim.Native.Nat.{ℕ, _*_, _≤_}
 use native.Mathlib.Nat.{mul-le-mul}
 use native.Mathlib.Omega.{arith}
 use Rattle.rules.specs.Layout.{zones}
 use Rattle.rules.specs.Refusal.{zonesAscend}
-use Rattle.rules.specs.Unit.{net}
 use Rattle.rules.proofs.Sound.{Sound}
-use Rattle.rules.proofs.Quantities.{Products, products, priced-range}
+use Rattle.rules.proofs.Quantities.{Products, products}
 use Rattle.pricing.specs.declared.Offer.{Offer}
-use Rattle.pricing.specs.Held.{unitOf, Coefficients, Priceable}
+use Rattle.pricing.specs.Held.{unitOf, Coefficients}
 
 -- the unit with the coefficients of an offer is a sound one
 pub sound : {o : Offer} → Coefficients o → Sound (unitOf o)
@@ -32,20 +31,17 @@ sound s =
       mark = omega arith;
     }
 
-pub record Range (o : Offer) (m p : ℕ) : Type 0 where
-  pub asked : Priceable o m p
+pub record Range (o : Offer) (p : ℕ) : Type 0 where
+  pub coefficients : Coefficients o
   pub products : Products (unitOf o) p
   pub square : o .c2 * p ≤ 10000000
   pub loss : o .b * p ≤ 50000000
-  pub net : m * (100000000 * p - o .b * p * p) ≤ 65536000000000000
 
-pub range : {o : Offer} {m p : ℕ} → Priceable o m p → Range o m p
-unfolding net
-range {o} {m} {p} a =
+pub range : {o : Offer} {p : ℕ} → (Coefficients o) × (p ≤ 10000) → Range o p
+range a =
     record {
-      asked = a;
-      products = products (sound (a .coefficients)) (a .output);
-      square = mul-le-mul (a .coefficients .c2) (a .output);
-      loss = mul-le-mul (a .coefficients .b) (a .output);
-      net = priced-range (sound (a .coefficients)) (a .output) (a .multiplier);
+      coefficients = a .0;
+      products = products (sound (a .0)) (a .1);
+      square = mul-le-mul (a .0 .c2) (a .1);
+      loss = mul-le-mul (a .0 .b) (a .1);
     }

@@ -3,11 +3,9 @@ use Prim.Native.Nat.{ℕ, _≤_, _<_}
 use mathlib.Core.Path.{_≡_}
 use mathlib.Core.List.{[]}
 use Rattle.rules.specs.Layout.{Unit}
-use Rattle.rules.specs.Unit.{cost, net, Offer}
-use Rattle.rules.specs.Choice.{pricedCost}
+use Rattle.rules.specs.Unit.{Offer}
 use Rattle.rules.proofs.Chosen.{Among, Ascends}
 use Rattle.pricing.specs.declared.Offer as code-offer
-use Rattle.pricing.specs.declared.Choice as code-choice
 use Rattle.pricing.specs.Regions.{Within, low, high}
 
 -- the unit with an offer's coefficients that runs from 1 to 10,000 and has no zone and no ramp window
@@ -45,23 +43,12 @@ pub record Bounded (o : code-offer.Offer) : Type 0 where
   pub apart : (j k : ℕ) → j < k → k < o .regions → high o j < low o k
   pub stands : (k : ℕ) → k < o .regions → low o k ≡ 0 → high o k ≡ 0
 
-pub record Priceable (o : code-offer.Offer) (m p : ℕ) : Type 0 where
-  pub coefficients : Coefficients o
-  pub multiplier : m ≤ 65536
-  pub output : p ≤ 10000
-
 pub record Choosable (o : code-offer.Offer) (m : ℕ) : Type 0 where
   pub bounded : Bounded o
   pub multiplier : m ≤ 65536
   pub some : 1 ≤ o .regions
 
 -- ---- what is held
-
--- cost, net and priced cost of a choice's output
-pub record Prices (m : ℕ) (o : code-offer.Offer) (c : code-choice.Choice) : Type 0 where
-  pub cost : c .cost ≡ cost (unitOf o) (c .output)
-  pub net : c .net ≡ net (unitOf o) (c .output)
-  pub priced : c .priced ≡ pricedCost m (unitOf o) (c .output)
 
 -- the struct o stands for the offer f: the same coefficients, and the outputs in its regions
 pub record Holds (o : code-offer.Offer) (f : Offer) : Type 0 where

@@ -6,12 +6,11 @@ use mathlib.Core.List.{List, []}
 use lib.Dec.{ltb}
 use lib.ListN.{length, getD, take, set, replicate}
 use Rattle.rules.specs.Lists.{all, greatest}
-use Rattle.rules.specs.Unit.{totalCost, totalNet, Offer, Problem, unitsOf}
+use Rattle.rules.specs.Unit.{cost, net, totalCost, totalNet, Offer, Problem, unitsOf}
 use Rattle.rules.specs.Choice.{choices, dualValue}
 use Rattle.rules.specs.Bisection.{greatestOutputs, solvable}
 use Rattle.pricing.specs.declared.Offer as code-offer
 use Rattle.pricing.specs.declared.Problem as code-problem
-use Rattle.pricing.specs.declared.Choice as code-choice
 use Rattle.pricing.specs.declared.Allocation as code-allocation
 use Rattle.pricing.specs.declared.Evaluation as code-evaluation
 use Rattle.pricing.specs.Held.{unitOf, Bounded, Holds}
@@ -55,9 +54,9 @@ pub record HoldsProblem (q : code-problem.Problem) (p : Problem) : Type 0 where
 abbrev pub nothing : code-allocation.Allocation
 nothing = record { outputs = replicate 32 0; cost = 0; net = 0 }
 
--- with the output of unit i
-abbrev pub added : code-allocation.Allocation → ℕ → code-choice.Choice → code-allocation.Allocation
-added a i c = record { outputs = set (a .outputs) i (c .output); cost = a .cost + c .cost; net = a .net + c .net }
+-- with output p of unit i, which is o
+abbrev pub added : code-allocation.Allocation → ℕ → code-offer.Offer → ℕ → code-allocation.Allocation
+added a i o p = record { outputs = set (a .outputs) i p; cost = a .cost + cost (unitOf o) p; net = a .net + net (unitOf o) p }
 
 -- outputs ps of the units of p, with their cost and net
 pub record HoldsOutputs (p : Problem) (ps : List ℕ) (a : code-allocation.Allocation) : Type 0 where

@@ -31,14 +31,6 @@ pub struct Problem {
     pub offers: [Offer; 32],
 }
 
-// An output of a unit at a multiplier, with its cost, net and priced cost.
-pub struct Choice {
-    pub output: u16,
-    pub cost: u64,
-    pub net: u64,
-    pub priced: i64,
-}
-
 // Outputs of the units, with their cost and net together. Past the units stand zeros.
 pub struct Allocation {
     pub outputs: [u16; 32],

@@ -1,16 +1,15 @@
 // All units at one multiplier: their choices, the dual value and its floor; and their greatest outputs.
 ghost use mathlib.Core.Path.{_≡_};
-ghost use Prim.Native.Nat.{ℕ, _+_, _≤_, _<_};
 ghost use Rattle.rules.specs.Choice.{dividedUp};
 ghost use Rattle.pricing.specs.Held.{Bounded};
-ghost use Rattle.pricing.specs.Totals.{BoundedProblem, Evaluable, nothing, added, Evaluates, GreatestOutput, GreatestOutputs, Permits, Solvable};
+ghost use Rattle.pricing.specs.Totals.{BoundedProblem, Evaluable, Evaluates, GreatestOutput, GreatestOutputs, Permits, Solvable};
 use crate::Allocation;
-use crate::Choice;
 use crate::Evaluation;
 use crate::Offer;
 use crate::Problem;
 use crate::units::choose;
-use crate::units::priced;
+use crate::units::cost;
+use crate::units::net;
 
 // The dual value divided by 100,000, rounded up.
 pub fn floor_of(dual: i64) -> i64
@@ -22,48 +21,32 @@ pub fn floor_of(dual: i64) -> i64
     (dual - 1) / 100000 + 1
 }
 
-// No output of any unit.
-fn none() -> Allocation
-    ensures { λ r. ⌜ r ≡ nothing ⌝ }
-{
-    Allocation {
-        outputs: [0u16; 32],
-        cost: 0,
-        net: 0,
-    }
-}
-
-// With the output of unit `i`.
-fn add(a: Allocation, i: usize, c: Choice) -> Allocation
-    requires { ⌜ (i < 32) × (a .cost + c .cost < 18446744073709551616) × (a .net + c .net < 18446744073709551616) ⌝ }
-    ensures { λ r. ⌜ r ≡ added a i c ⌝ }
-{
-    let mut outputs = a.outputs;
-    outputs[i] = c.output;
-    Allocation {
-        outputs,
-        cost: a.cost + c.cost,
-        net: a.net + c.net,
-    }
-}
-
 // The choices of all units and the dual value at multiplier `m`.
 pub fn evaluate(q: Problem, m: u64) -> Evaluation
     requires { ⌜ Evaluable q m ⌝ }
     ensures { λ r. ⌜ Evaluates q m r ⌝ }
 {
     let count = q.count;
-    let mut choices = none();
-    let mut dual = (m * (100000000 * q.demand)) as i64;
+    let mut outputs = [0u16; 32];
+    let mut total_cost: u64 = 0;
+    let mut total_net: u64 = 0;
     let mut i = 0;
     while i < count {
         let o = q.offers[i];
-        let c = choose(o, m);
-        choices = add(choices, i, c);
-        dual += c.priced;
+        let p = choose(o, m);
+        outputs[i] = p;
+        total_cost += cost(o, p);
+        total_net += net(o, p);
         i += 1;
     }
-    Evaluation { choices, dual }
+    Evaluation {
+        choices: Allocation {
+            outputs,
+            cost: total_cost,
+            net: total_net,
+        },
+        dual: (100000 * total_cost + m * (100000000 * q.demand)) as i64 - (m * total_net) as i64,
+    }
 }
 
 // The greatest output of a unit, 0 where it has none.
@@ -78,20 +61,29 @@ fn greatest_output(o: Offer) -> u16
     highs[regions - 1]
 }
 
-// The greatest outputs of all units. (At multiplier 0 no product is needed but those of cost and net.)
+// The greatest outputs of all units.
 pub fn greatest_outputs(q: Problem) -> Allocation
     requires { ⌜ BoundedProblem q ⌝ }
     ensures { λ r. ⌜ GreatestOutputs q r ⌝ }
 {
     let count = q.count;
-    let mut a = none();
+    let mut outputs = [0u16; 32];
+    let mut total_cost: u64 = 0;
+    let mut total_net: u64 = 0;
     let mut i = 0;
     while i < count {
         let o = q.offers[i];
-        a = add(a, i, priced(o, 0, greatest_output(o)));
+        let p = greatest_output(o);
+        outputs[i] = p;
+        total_cost += cost(o, p);
+        total_net += net(o, p);
         i += 1;
     }
-    a
+    Allocation {
+        outputs,
+        cost: total_cost,
+        net: total_net,
+    }
 }
 
 // Whether every unit has a permitted output.

@@ -1,13 +1,11 @@
 // One unit at one multiplier: where its priced cost turns, and its choice among its regions.
 ghost use mathlib.Core.Path.{_≡_};
-ghost use mathlib.Core.Bool.{cond};
-ghost use Prim.Native.Nat.{ℕ, _≤_, _<_};
-ghost use lib.Signed.{leZ};
+ghost use Prim.Native.Nat.{ℕ, _+_, _*_, _≤_, _<_};
+ghost use Rattle.rules.specs.Unit.{cost as Unit·cost, net as Unit·net};
 ghost use Rattle.rules.proofs.Integers.{up, dn, Is};
 ghost use Rattle.pricing.specs.Turn.{Turn};
-ghost use Rattle.pricing.specs.Held.{Coefficients, Priceable, Prices, Choosable};
-ghost use Rattle.pricing.specs.Choosing.{Turns, BestIn, Best, Chooses};
-use crate::Choice;
+ghost use Rattle.pricing.specs.Held.{unitOf, Coefficients, Choosable};
+ghost use Rattle.pricing.specs.Choosing.{Heightable, Chooses};
 use crate::Offer;
 
 // Where a × p × p + l × p turns on 0..=10000: it falls until there and rises from there.
@@ -46,72 +44,54 @@ fn clamp(v: u16, low: u16, high: u16) -> u16
     v
 }
 
-// An output at multiplier `m`.
-pub fn priced(o: Offer, m: u64, p: u16) -> Choice
-    requires { ⌜ Priceable o m p ⌝ }
-    ensures { λ r. ⌜ (r .output ≡ p) × Prices m o r ⌝ }
+// a × p × p + l × p.
+fn height(a: u64, l: i64, p: u16) -> i64
+    requires { ⌜ Heightable a l p ⌝ }
+    ensures { λ r. ⌜ ((s t : ℕ) → Is l s t → Is r (a * (p * p) + s * p) (t * p)) ⌝ }
 {
-    let Offer { c0, c1, c2, b, .. } = o;
-    let x = p as u64;
-    let cost = c0 + c1 * x + c2 * x * x;
-    let net = 100000000 * x - b * x * x;
-    Choice {
-        output: p,
-        cost,
-        net,
-        priced: (100000 * cost) as i64 - (m * net) as i64,
-    }
+    let x = p as i64;
+    (a as i64 * x + l) * x
 }
 
-// The later of two where it costs no more, else the earlier.
-fn better(a: Choice, b: Choice) -> Choice
-    ensures { λ r. ⌜ r ≡ cond (leZ (b .priced) (a .priced)) b a ⌝ }
-{
-    let Choice {
-        priced: earlier,
-        ..
-    } = a;
-    let Choice { priced: later, .. } = b;
-    if later <= earlier { b } else { a }
-}
-
-// Where the priced cost of a unit's running outputs turns.
-fn turn(o: Offer, m: u64) -> u16
-    requires { ⌜ (Coefficients o) × (m ≤ 65536) ⌝ }
-    ensures { λ r. ⌜ Turns o m r ⌝ }
-{
-    let Offer { c1, c2, b, .. } = o;
-    vertex(
-        100000 * c2 + m * b,
-        (100000 * c1) as i64 - (100000000 * m) as i64,
-    )
-}
-
-// The choice among the outputs of one region, given where the priced cost turns.
-fn best_in(o: Offer, m: u64, v: u16, low: u16, high: u16) -> Choice
-    requires { ⌜ BestIn o m v low high ⌝ }
-    ensures { λ r. ⌜ Best o m low high r ⌝ }
-{
-    priced(o, m, clamp(v, low, high))
-}
-
-// The choice of a unit: the better of the choices in its regions. One division finds all of them.
-pub fn choose(o: Offer, m: u64) -> Choice
+// The choice of a unit. In each region the priced cost, up to a constant, is least where it turns; one division finds all of
+// these outputs. Of two the later is kept where it costs no more.
+pub fn choose(o: Offer, m: u64) -> u16
     requires { ⌜ Choosable o m ⌝ }
     ensures { λ r. ⌜ Chooses o m r ⌝ }
 {
-    let Offer {
-        regions,
-        lows,
-        highs,
-        ..
-    } = o;
-    let v = turn(o, m);
-    let mut best = best_in(o, m, v, lows[0], highs[0]);
+    let a = 100000 * o.c2 + m * o.b;
+    let l = (100000 * o.c1) as i64 - (100000000 * m) as i64;
+    let v = vertex(a, l);
+    let lows = o.lows;
+    let highs = o.highs;
+    let mut best = clamp(v, lows[0], highs[0]);
+    let mut least = height(a, l, best);
     let mut k = 1;
-    while k < regions {
-        best = better(best, best_in(o, m, v, lows[k], highs[k]));
+    while k < o.regions {
+        let p = clamp(v, lows[k], highs[k]);
+        let h = height(a, l, p);
+        if h <= least {
+            best = p;
+            least = h;
+        }
         k += 1;
     }
     best
+}
+
+pub fn cost(o: Offer, p: u16) -> u64
+    requires { ⌜ (Coefficients o) × (p ≤ 10000) ⌝ }
+    ensures { λ r. ⌜ r ≡ Unit·cost (unitOf o) p ⌝ }
+{
+    let Offer { c0, c1, c2, .. } = o;
+    let x = p as u64;
+    c0 + c1 * x + c2 * x * x
+}
+
+pub fn net(o: Offer, p: u16) -> u64
+    requires { ⌜ (Coefficients o) × (p ≤ 10000) ⌝ }
+    ensures { λ r. ⌜ r ≡ Unit·net (unitOf o) p ⌝ }
+{
+    let x = p as u64;
+    100000000 * x - o.b * x * x
 }

@@ -39,7 +39,7 @@ single {f} q = record { candidate = refl; least = λ p e. subst (λ (n : ℕ). f
 
 -- of some candidates and of others that are all greater: the better of the two that are chosen
 module _ {f : ℕ → ℤ} {C D : ℕ → Type 0} {r s : ℕ} (c : Chosen f C r) (d : Chosen f D s) (above : (p q : ℕ) → C p → D q → p < q) where
-  second : f s ≤ℤ f r → Chosen f (λ p. C p ⊎ D p) s
+  pub second : f s ≤ℤ f r → Chosen f (λ p. C p ⊎ D p) s
   second h = record { candidate = inr (d .candidate); least = least′; last = last′ }
     where
       least′ : (p : ℕ) → C p ⊎ D p → f s ≤ℤ f p
@@ -50,7 +50,7 @@ module _ {f : ℕ → ℤ} {C D : ℕ → Type 0} {r s : ℕ} (c : Chosen f C r)
       last′ p (inl i) e = omega (arith, above p s i (d .candidate))
       last′ p (inr i) e = d .last p i e
 
-  first : lib.Signed._<ℤ_ (f r) (f s) → Chosen f (λ p. C p ⊎ D p) r
+  pub first : lib.Signed._<ℤ_ (f r) (f s) → Chosen f (λ p. C p ⊎ D p) r
   first h = record { candidate = inl (c .candidate); least = least′; last = last′ }
     where
       least′ : (p : ℕ) → C p ⊎ D p → f r ≤ℤ f p

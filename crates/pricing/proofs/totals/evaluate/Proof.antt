@@ -1,36 +1,30 @@
--- `pricing::totals::evaluate` meets its contract. The loop keeps what `Evaluating` says.
-use mir.Syntax.{w64}
-use mir.Val.{toZ, ofZ}
-use mir.Facts.{toZ-ofZ}
-use Rattle.rules.proofs.Integers.{cast}
-use Rattle.pricing.proofs.Evaluating.{Evaluating, demand-range, evaluating-starts, more-sums, more-fits, evaluating-more, evaluating-ends}
-use mathlib.Core.Path.{_≡_}
-use borrow.Author.Needs.{needs}
+-- `pricing::totals::evaluate` meets its contract. The loop keeps what `Evaluating` says, and the dual value is made of the sums.
 use native.Mathlib.Omega.{arith}
-use Prim.Native.Nat.{_<_, _-_}
+use Prim.Native.Nat.{_+_, _<_, _-_, _*_}
+use lib.IntN.{_-ℤ_}
+use mir.Syntax.{w64}
+use mir.Val.{toZ}
+use Rattle.rules.proofs.Integers.{Is, is-minus, cast, fits, kept}
+use Rattle.pricing.specs.Totals.{offerAt, added, Sized}
+use Rattle.pricing.proofs.Evaluating.{Evaluating, Sums, sums, evaluating-starts, more-sized, evaluating-more, evaluating-ends}
 use Rattle.pricing.proofs.totals.evaluate.Statement.{statement}
 use Rattle.pricing.proofs.totals.evaluate.Tie as tie
 
 abbrev Inv-loop : tie.InvT-loop
-Inv-loop m q count choices₀ dual₀ i₀ choices dual i = Evaluating q m choices (toZ w64 dual) i
+Inv-loop m q count outputs₀ total-cost₀ total-net₀ i₀ outputs total-cost total-net i = Evaluating q m (record { outputs = outputs; cost = total-cost; net = total-net }) i
 
 abbrev μ-loop : tie.MeasureT-loop
-μ-loop m q count choices₀ dual₀ i₀ choices dual i = q .count - i
-
-none-requires : tie.Need-none-requires Inv-loop μ-loop
-none-requires c κs = search needs
-
-mul-dual : tie.Need-mul-dual Inv-loop μ-loop
-mul-dual c = omega (arith, c .before .pre .bounded .demand)
-
-mul-dual-2 : tie.Need-mul-dual-2 Inv-loop μ-loop
-mul-dual-2 c = omega (arith, demand-range (c .before .pre))
-
-cast-dual : tie.Need-cast-dual Inv-loop μ-loop
-cast-dual c = omega (arith, demand-range (c .before .pre))
+μ-loop m q count outputs₀ total-cost₀ total-net₀ i₀ outputs total-cost total-net i = q .count - i
 
 loop-holds : tie.Need-loop-holds Inv-loop μ-loop
-loop-holds c = rw (c .none .ensures) (evaluating-starts (c .before .pre) (cast _ (omega (arith, demand-range (c .before .pre)))))
+loop-holds c = evaluating-starts (c .pre)
+
+-- unit i, which is below the count, and the numbers with its choice
+below : (c : tie.After-choose Inv-loop μ-loop) → c .before .before .before .loop .i < c .before .before .before .before .args .t1 .count
+below c = c .before .before .loop-test .taken
+
+next : (c : tie.After-choose Inv-loop μ-loop) → let l = c .before .before .before .loop in let q = c .before .before .before .before .args .t1 in Sized (l .i + 1) (added (record { outputs = l .outputs; cost = l .total-cost; net = l .total-net }) (l .i) (offerAt q (l .i)) (c .choose .result))
+next c = more-sized (c .before .before .before .before .pre) (c .before .before .before .loop .inv) (below c) (c .choose .ensures)
 
 mul-o : tie.Need-mul-o Inv-loop μ-loop
 mul-o c = omega arith
@@ -40,30 +34,27 @@ element-copy-out-o c = omega arith
 
 choose-requires : tie.Need-choose-requires Inv-loop μ-loop
 choose-requires c κs =
-    let e = c .before .before .before .before .pre in
-    record {
-      bounded = e .bounded .offers (c .before .before .loop .i) (omega arith);
-      multiplier = e .multiplier;
-      some = e .permitted (c .before .before .loop .i) (omega arith);
-    }
+    let e = c .before .before .before .pre in
+    let l = c .before .loop-test .taken in
+    record { bounded = e .bounded .offers _ l; multiplier = e .multiplier; some = e .permitted _ l }
 
--- unit i, which is below the count, and its priced cost as it is read
-below : (c : tie.After-choose Inv-loop μ-loop) → c .before .before .before .loop .i < c .before .before .before .before .before .args .t1 .count
-below c = c .before .before .loop-test .taken
+mul-outputs : tie.Need-mul-outputs Inv-loop μ-loop
+mul-outputs c = omega arith
 
-priced-read : (c : tie.After-struct-told Inv-loop μ-loop) → toZ w64 (ofZ w64 (c .before .before .before .choose .result .priced)) ≡ c .before .before .before .choose .result .priced
-priced-read c = toZ-ofZ {w = w64} (search needs)
+array-write-outputs : tie.Need-array-write-outputs Inv-loop μ-loop
+array-write-outputs c = omega arith
 
-add-requires : tie.Need-add-requires Inv-loop μ-loop
-add-requires c κs =
-    let e = c .before .before .before .before .before .pre in
-    let r = more-sums e (c .before .before .before .loop .inv) (below c) (c .choose .ensures) in
-    (omega (arith, below c, e .bounded .count), omega (arith, r .cost), omega (arith, r .net))
+cost-requires : tie.Need-cost-requires Inv-loop μ-loop
+cost-requires c κs = (c .before .before .before .before .pre .bounded .offers _ (c .before .before .loop-test .taken) .coefficients, c .choose .ensures .output)
 
-add-dual : tie.Need-add-dual Inv-loop μ-loop
-add-dual c =
-    let h = c .before .before .before in
-    more-fits (h .before .before .before .before .before .pre) (h .before .before .before .loop .inv) (below h) (h .choose .ensures) (priced-read c)
+add-total-cost : tie.Need-add-total-cost Inv-loop μ-loop
+add-total-cost c = omega (arith, next (c .before) .cost, c .cost .ensures, c .before .before .before .before .before .pre .bounded .count, below (c .before))
+
+net-requires : tie.Need-net-requires Inv-loop μ-loop
+net-requires c κs = (c .before .before .before .before .before .pre .bounded .offers _ (c .before .before .before .loop-test .taken) .coefficients, c .before .choose .ensures .output)
+
+add-total-net : tie.Need-add-total-net Inv-loop μ-loop
+add-total-net c = omega (arith, next (c .before .before) .net, c .net .ensures, c .before .before .before .before .before .before .pre .bounded .count, below (c .before .before))
 
 add-i : tie.Need-add-i Inv-loop μ-loop
 add-i c = omega arith
@@ -73,12 +64,44 @@ loop-less c = omega arith
 
 loop-again : tie.Need-loop-again Inv-loop μ-loop
 loop-again c =
-    let h = c .before .before .before in
-    rw (c .before .before .add .ensures)
-    (evaluating-more (h .before .before .before .before .before .pre) (h .before .before .before .loop .inv) (below h) (h .choose .ensures) (priced-read c))
+    let h = c .before .before in
+    rw (c .before .cost .ensures, c .net .ensures)
+    (evaluating-more (h .before .before .before .before .pre) (h .before .before .before .loop .inv) (below h) (h .choose .ensures))
+
+-- the range of all that the dual value is made of, and the dual value as it is computed
+ended : (c : tie.After-loop Inv-loop μ-loop) → let l = c .before .loop in Sums (c .before .before .pre) (record { outputs = l .outputs; cost = l .total-cost; net = l .total-net })
+ended c = let l = c .before .loop in sums (c .before .before .pre) (l .inv .sized) (omega (arith, l .inv .within, c .before .before .pre .bounded .count))
+
+dual-is : (c : tie.After-loop Inv-loop μ-loop) → let l = c .before .loop in let a = c .before .before .args in Is (toZ w64 (100000 * l .total-cost + a .m * (100000000 * a .t1 .demand)) -ℤ toZ w64 (a .m * l .total-net)) (100000 * l .total-cost + a .m * (100000000 * a .t1 .demand) + 0) (0 + a .m * l .total-net)
+dual-is c = is-minus (cast _ (omega (arith, ended c))) (cast _ (omega (arith, ended c)))
+
+mul-t21 : tie.Need-mul-t21 Inv-loop μ-loop
+mul-t21 c = omega (arith, ended c)
+
+mul-t23 : tie.Need-mul-t23 Inv-loop μ-loop
+mul-t23 c = omega (arith, c .before .before .pre .bounded .demand)
+
+mul-t24 : tie.Need-mul-t24 Inv-loop μ-loop
+mul-t24 c = omega (arith, ended c)
+
+add-t25 : tie.Need-add-t25 Inv-loop μ-loop
+add-t25 c = omega (arith, ended c)
+
+cast-t26 : tie.Need-cast-t26 Inv-loop μ-loop
+cast-t26 c = omega (arith, ended c)
+
+mul-t27 : tie.Need-mul-t27 Inv-loop μ-loop
+mul-t27 c = omega (arith, ended c)
+
+cast-t28 : tie.Need-cast-t28 Inv-loop μ-loop
+cast-t28 c = omega (arith, ended c)
+
+sub-t29 : tie.Need-sub-t29 Inv-loop μ-loop
+sub-t29 c = fits (dual-is c) (omega (arith, ended c)) (omega (arith, ended c))
 
 returns : tie.Need-returns Inv-loop μ-loop
-returns c = evaluating-ends (c .before .before .before .pre) (c .before .loop .inv) (omega arith)
+returns c =
+    evaluating-ends (c .before .before .pre) (c .before .loop .inv) (omega (arith, c .before .loop .inv .within, c .loop-test .left)) (record { is = omega (arith, kept (dual-is c) (omega (arith, ended c)) (omega (arith, ended c))) })
 
 pub evaluate-spec : {M : Type 1} → statement M
 evaluate-spec =
@@ -86,17 +109,25 @@ evaluate-spec =
     (tie.spec
     Inv-loop
     μ-loop
-    none-requires
-    mul-dual
-    mul-dual-2
-    cast-dual
     loop-holds
     mul-o
     element-copy-out-o
     choose-requires
-    add-requires
-    add-dual
+    mul-outputs
+    array-write-outputs
+    cost-requires
+    add-total-cost
+    net-requires
+    add-total-net
     add-i
     loop-less
     loop-again
+    mul-t21
+    mul-t23
+    mul-t24
+    add-t25
+    cast-t26
+    mul-t27
+    cast-t28
+    sub-t29
     returns)

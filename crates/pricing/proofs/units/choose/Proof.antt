@@ -1,52 +1,122 @@
--- `pricing::units::choose` meets its contract. The loop keeps the choice in the regions that it has looked at.
-use Rattle.pricing.proofs.Choosing.{Choosing, region, choosing-starts, choosing-more, choosing-ends}
+-- `pricing::units::choose` meets its contract. The loop keeps the choice in the regions that it has looked at, with its height.
 use borrow.Author.Needs.{needs}
+use native.Mathlib.Nat.{mul-le-mul}
 use native.Mathlib.Omega.{arith}
-use Prim.Native.Nat.{ℕ, _≤_, _-_}
+use Prim.Native.Nat.{ℕ, _+_, _*_, _-_, _≤_}
 use mathlib.Core.Path.{_≡_, subst}
+use mathlib.Core.Logic.{⊎-elim}
+use lib.IntN.{ℤ, _-ℤ_}
+use mir.Syntax.{w64}
+use mir.Val.{toZ, ofZ}
+use mir.Facts.{toZ-ofZ}
+use Rattle.rules.proofs.Integers.{Is, is-minus, is-same, cast, fits, kept, up-is, dn-is}
+use Rattle.pricing.specs.Regions.{low, high}
+use Rattle.pricing.specs.Choosing.{Heightable}
+use Rattle.pricing.proofs.Choosing.{Turns, Height, Choosing, choosing-starts, choosing-next, choosing-same, choosing-ends}
 use Rattle.pricing.proofs.units.choose.Statement.{statement}
 use Rattle.pricing.proofs.units.choose.Tie as tie
 
 abbrev Inv-loop : tie.InvT-loop
-Inv-loop o m regions lows highs v best₀ k₀ best k = (k ≤ o .regions) × Choosing o m k best
+Inv-loop o m a l v lows highs best₀ least₀ k₀ best least k = (k ≤ o .regions) × Choosing o m k best (toZ w64 least)
 
 abbrev μ-loop : tie.MeasureT-loop
-μ-loop o m regions lows highs v best₀ k₀ best k = o .regions - k
+μ-loop o m a l v lows highs best₀ least₀ k₀ best least k = o .regions - k
 
-turn-requires : tie.Need-turn-requires Inv-loop μ-loop
-turn-requires c κs = search needs
+module _ (s : tie.Start Inv-loop μ-loop) where
+  -- the slope, as it is computed and as it is read
+  abbrev L : ℤ
+  L = toZ w64 (100000 * s .args .o .c1) -ℤ toZ w64 (100000000 * s .args .m)
 
-array-read-best-in : tie.Need-array-read-best-in Inv-loop μ-loop
-array-read-best-in c = omega arith
+  c1-small : 100000 * s .args .o .c1 ≤ 1000000000000
+  c1-small = omega (arith, s .pre .bounded .coefficients .c1)
 
-array-read-best-in-2 : tie.Need-array-read-best-in-2 Inv-loop μ-loop
-array-read-best-in-2 c = omega arith
+  m-small : 100000000 * s .args .m ≤ 6553600000000
+  m-small = omega (arith, s .pre .multiplier)
 
-best-in-requires : tie.Need-best-in-requires Inv-loop μ-loop
-best-in-requires c κs = let s = c .before .before .before in region (s .pre .bounded) (s .pre .multiplier) (c .turn .ensures) (s .pre .some)
+  l-is : Is L (100000 * s .args .o .c1 + 0) (0 + 100000000 * s .args .m)
+  l-is = is-minus (cast _ (omega (arith, c1-small))) (cast _ (omega (arith, m-small)))
+
+  l-read : Is (toZ w64 (ofZ w64 L)) (100000 * s .args .o .c1) (100000000 * s .args .m)
+  l-read = record { is = omega (arith, kept l-is (omega (arith, c1-small)) (omega (arith, m-small))) }
+
+  -- the square's coefficient
+  loss : s .args .m * s .args .o .b ≤ 327680000
+  loss = mul-le-mul (s .pre .multiplier) (s .pre .bounded .coefficients .b)
+
+  a-small : 100000 * s .args .o .c2 + s .args .m * s .args .o .b ≤ 1000000000
+  a-small = omega (arith, loss, s .pre .bounded .coefficients .c2)
+
+  heightable : {p : ℕ} → p ≤ 10000 → Heightable (100000 * s .args .o .c2 + s .args .m * s .args .o .b) (toZ w64 (ofZ w64 L)) p
+  heightable h = record { square = a-small; above = omega (arith, up-is l-read, c1-small); below = omega (arith, dn-is l-read, m-small); output = h }
+
+-- where the first region turns, and the next one
+turns-first : (c : tie.After-clamp Inv-loop μ-loop) → let s = c .before .before .before .before .before .before .before in Turns (s .args .o) (s .args .m) (low (s .args .o) 0) (high (s .args .o) 0) (c .clamp .result)
+turns-first c = c .clamp .ensures _ _ _ (c .before .before .before .vertex .ensures _ _ (l-read (c .before .before .before .before .before .before .before)))
+
+turns-next : (c : tie.After-clamp2 Inv-loop μ-loop) → let s = c .before .before .before .before .before .before .before .before .before .before .before .before in let k = c .before .before .before .loop .k in Turns (s .args .o) (s .args .m) (low (s .args .o) k) (high (s .args .o) k) (c .clamp2 .result)
+turns-next c = c .clamp2 .ensures _ _ _ (c .before .before .before .before .before .before .before .before .vertex .ensures _ _ (l-read (c .before .before .before .before .before .before .before .before .before .before .before .before)))
+
+mul-a : tie.Need-mul-a Inv-loop μ-loop
+mul-a c = omega (arith, c .before .pre .bounded .coefficients .c2)
+
+mul-a-2 : tie.Need-mul-a-2 Inv-loop μ-loop
+mul-a-2 c = omega (arith, loss (c .before .before))
+
+add-a : tie.Need-add-a Inv-loop μ-loop
+add-a c = omega (arith, a-small (c .before .before))
+
+mul-l : tie.Need-mul-l Inv-loop μ-loop
+mul-l c = omega (arith, c1-small (c .before .before .before))
+
+cast-l : tie.Need-cast-l Inv-loop μ-loop
+cast-l c = omega (arith, c1-small (c .before .before .before))
+
+mul-l-2 : tie.Need-mul-l-2 Inv-loop μ-loop
+mul-l-2 c = omega (arith, m-small (c .before .before .before))
+
+cast-l-2 : tie.Need-cast-l-2 Inv-loop μ-loop
+cast-l-2 c = omega (arith, m-small (c .before .before .before))
+
+sub-l : tie.Need-sub-l Inv-loop μ-loop
+sub-l c = let s = c .before .before .before in fits (l-is s) (omega (arith, c1-small s)) (omega (arith, m-small s))
+
+vertex-requires : tie.Need-vertex-requires Inv-loop μ-loop
+vertex-requires c κs = let s = c .before .before .before in (omega (arith, a-small s), omega (arith, up-is (l-read s), c1-small s), omega (arith, dn-is (l-read s), m-small s))
+
+array-read-clamp : tie.Need-array-read-clamp Inv-loop μ-loop
+array-read-clamp c = omega arith
+
+array-read-clamp-2 : tie.Need-array-read-clamp-2 Inv-loop μ-loop
+array-read-clamp-2 c = omega arith
+
+clamp-requires : tie.Need-clamp-requires Inv-loop μ-loop
+clamp-requires c κs = let s = c .before .before .before .before .before .before in (s .pre .bounded .order 0 (s .pre .some), s .pre .bounded .limit 0 (s .pre .some))
+
+height-requires : tie.Need-height-requires Inv-loop μ-loop
+height-requires c κs = heightable (c .before .before .before .before .before .before .before) (omega (arith, turns-first c .to, c .before .before .before .before .before .before .before .pre .bounded .limit 0 (c .before .before .before .before .before .before .before .pre .some)))
 
 loop-holds : tie.Need-loop-holds Inv-loop μ-loop
-loop-holds c = let s = c .before .before .before .before in (s .pre .some, choosing-starts (s .pre .bounded) (s .args .m) (c .best-in .ensures))
+loop-holds c =
+    let s = c .before .before .before .before .before .before .before .before in
+    (s .pre .some, choosing-starts (s .pre .bounded) (s .args .m) (s .pre .some) (turns-first (c .before)) (is-same (toZ-ofZ {w = w64} (search needs)) (c .height .ensures _ _ (l-read s))))
 
-mul-best-in : tie.Need-mul-best-in Inv-loop μ-loop
-mul-best-in c = omega arith
+mul-clamp : tie.Need-mul-clamp Inv-loop μ-loop
+mul-clamp c = omega arith
 
-array-read-best-in-3 : tie.Need-array-read-best-in-3 Inv-loop μ-loop
-array-read-best-in-3 c = omega arith
+array-read-clamp-3 : tie.Need-array-read-clamp-3 Inv-loop μ-loop
+array-read-clamp-3 c = omega arith
 
-mul-best-in-2 : tie.Need-mul-best-in-2 Inv-loop μ-loop
-mul-best-in-2 c = omega arith
+mul-clamp-2 : tie.Need-mul-clamp-2 Inv-loop μ-loop
+mul-clamp-2 c = omega arith
 
-array-read-best-in-4 : tie.Need-array-read-best-in-4 Inv-loop μ-loop
-array-read-best-in-4 c = omega arith
+array-read-clamp-4 : tie.Need-array-read-clamp-4 Inv-loop μ-loop
+array-read-clamp-4 c = omega arith
 
-best-in-requires-2 : tie.Need-best-in-requires-2 Inv-loop μ-loop
-best-in-requires-2 c κs =
-    let s = c .before .before .before .before .before .before in
-    region (s .pre .bounded) (s .pre .multiplier) (c .before .before .before .turn .ensures) (omega arith)
+clamp-requires-2 : tie.Need-clamp-requires-2 Inv-loop μ-loop
+clamp-requires-2 c κs = let s = c .before .before .before .before .before .before .before .before .before .before .before in (s .pre .bounded .order _ (c .if1 .taken), s .pre .bounded .limit _ (c .if1 .taken))
 
-better-requires : tie.Need-better-requires Inv-loop μ-loop
-better-requires c κs = search needs
+height-requires-2 : tie.Need-height-requires-2 Inv-loop μ-loop
+height-requires-2 c κs = heightable (c .before .before .before .before .before .before .before .before .before .before .before .before) (omega (arith, turns-next c .to, c .before .before .before .before .before .before .before .before .before .before .before .before .pre .bounded .limit _ (c .before .if1 .taken)))
 
 add-k : tie.Need-add-k Inv-loop μ-loop
 add-k c = omega arith
@@ -56,16 +126,26 @@ loop-less c = omega arith
 
 loop-again : tie.Need-loop-again Inv-loop μ-loop
 loop-again c =
-    let s = c .before .before .before .before .before .before .before .before in
-    let l = c .before .before .before .loop in
-    (omega arith, choosing-more (s .pre .bounded) (s .args .m) (omega arith) (l .inv .1) (c .before .best-in2 .ensures) (c .better .ensures))
+    let s = c .before .before .before .before .before .before .before .before .before .before .before .before .before .before in
+    let h = c .before in
+    let l = h .before .before .before .before .loop in
+    let next : Height (s .args .o) (s .args .m) (h .before .clamp2 .result) (toZ w64 (ofZ w64 (h .height2 .result))) =
+    is-same (toZ-ofZ {w = w64} (search needs)) (h .height2 .ensures _ _ (l-read s)) in
+    let turns = turns-next (h .before) in
+    let below = h .before .before .if1 .taken in (
+      omega arith,
+      ⊎-elim
+          (λ w. rw (w .1, w .2) (choosing-next (s .pre .bounded) (s .args .m) below (l .inv .1) turns next (w .0 .taken)))
+          (λ w. rw (w .1, w .2) (choosing-same (s .pre .bounded) (s .args .m) below (l .inv .1) turns next (w .0 .left)))
+          (c .if2 .came),
+    )
 
 returns : tie.Need-returns Inv-loop μ-loop
 returns c =
-    let s = c .before .before .before .before .before .before in
-    let l = c .before .loop in
+    let s = c .before .before .before .before .before .before .before .before .before .before .before in
+    let l = c .before .before .loop in
     let all : l .k ≡ s .args .o .regions = omega arith in
-    choosing-ends (s .pre .bounded) (s .args .m) (subst (λ (n : ℕ). Choosing (s .args .o) (s .args .m) n (l .best)) all (l .inv .1))
+    choosing-ends (s .pre .bounded) (s .args .m) (subst (λ (n : ℕ). Choosing (s .args .o) (s .args .m) n (l .best) (toZ w64 (l .least))) all (l .inv .1))
 
 pub choose-spec : {M : Type 1} → statement M
 choose-spec =
@@ -73,17 +153,26 @@ choose-spec =
     (tie.spec
     Inv-loop
     μ-loop
-    turn-requires
-    array-read-best-in
-    array-read-best-in-2
-    best-in-requires
+    mul-a
+    mul-a-2
+    add-a
+    mul-l
+    cast-l
+    mul-l-2
+    cast-l-2
+    sub-l
+    vertex-requires
+    array-read-clamp
+    array-read-clamp-2
+    clamp-requires
+    height-requires
     loop-holds
-    mul-best-in
-    array-read-best-in-3
-    mul-best-in-2
-    array-read-best-in-4
-    best-in-requires-2
-    better-requires
+    mul-clamp
+    array-read-clamp-3
+    mul-clamp-2
+    array-read-clamp-4
+    clamp-requires-2
+    height-requires-2
     add-k
     loop-less
     loop-again

@@ -1,0 +1,84 @@
+-- `pricing::units::height` meets its contract: each step is a difference of naturals that fits.
+use native.Mathlib.Nat.{mul-le-mul}
+use native.Mathlib.Omega.{arith}
+use mathlib.Core.Path.{ap}
+use Prim.Native.Nat.{ℕ, _+_, _*_, _≤_}
+use lib.IntN.{ℤ, _+ℤ_, _*ℤ_}
+use mir.Syntax.{w64}
+use mir.Val.{toZ, ofZ}
+use Rattle.rules.proofs.Integers.{Is, up, dn, back, cast, is-add, is-product, fits, kept}
+use Rattle.pricing.proofs.units.height.Statement.{statement}
+use Rattle.pricing.proofs.units.height.Tie as tie
+
+module _ (c : tie.Start) where
+  abbrev a : ℕ
+  a = c .args .a
+
+  abbrev p : ℕ
+  p = c .args .p
+
+  abbrev l : ℤ
+  l = c .args .l
+
+  x-is : Is (toZ w64 p) p 0
+  x-is = cast p (omega (arith, c .pre .output))
+
+  -- the products, for `omega`
+  squared : a * p ≤ 10000000000000
+  squared = mul-le-mul (c .pre .square) (c .pre .output)
+
+  slope : a * p * p ≤ 100000000000000000
+  slope = mul-le-mul squared (c .pre .output)
+
+  above : up l * p ≤ 100000000000000000
+  above = mul-le-mul (c .pre .above) (c .pre .output)
+
+  below : dn l * p ≤ 100000000000000000
+  below = mul-le-mul (c .pre .below) (c .pre .output)
+
+  -- a × p, then a × p + l, then (a × p + l) × p: as computed and as read
+  abbrev First : ℤ
+  First = toZ w64 a *ℤ toZ w64 p
+
+  first-is : Is First (a * p) 0
+  first-is = record { is = omega (arith, is-product (cast a (omega (arith, c .pre .square))) x-is) }
+
+  first-read : Is (toZ w64 (ofZ w64 First)) (a * p) 0
+  first-read = kept first-is (omega (arith, squared)) (omega arith)
+
+  abbrev Second : ℤ
+  Second = toZ w64 (ofZ w64 First) +ℤ toZ w64 (ofZ w64 l)
+
+  second-is : Is Second (a * p + up l) (0 + dn l)
+  second-is = is-add first-read (back (c .fits .l))
+
+  second-read : Is (toZ w64 (ofZ w64 Second)) (a * p + up l) (0 + dn l)
+  second-read = kept second-is (omega (arith, squared, c .pre .above)) (omega (arith, c .pre .below))
+
+  abbrev Third : ℤ
+  Third = toZ w64 (ofZ w64 Second) *ℤ toZ w64 p
+
+  third-is : Is Third (a * p * p + up l * p) (dn l * p)
+  third-is = record { is = omega (arith, is-product second-read x-is) }
+
+cast-x : tie.Need-cast-x
+cast-x c = omega (arith, c .pre .output)
+
+cast-result : tie.Need-cast-result
+cast-result c = omega (arith, c .pre .square)
+
+mul-result : tie.Need-mul-result
+mul-result c = fits (first-is c) (omega (arith, squared c)) (omega arith)
+
+add-result : tie.Need-add-result
+add-result c = fits (second-is c) (omega (arith, squared c, c .pre .above)) (omega (arith, c .pre .below))
+
+mul-result-2 : tie.Need-mul-result-2
+mul-result-2 c = fits (third-is c) (omega (arith, slope c, above c)) (omega (arith, below c))
+
+returns : tie.Need-returns
+returns c = λ s t k.
+    record { is = omega (arith, kept (third-is c) (omega (arith, slope c, above c)) (omega (arith, below c)), ap (λ (n : ℕ). n * c .args .p) (k .is)) }
+
+pub height-spec : {M : Type 1} → statement M
+height-spec = tie.close (tie.spec cast-x cast-result mul-result add-result mul-result-2 returns)
