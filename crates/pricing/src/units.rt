@@ -30,18 +30,21 @@ fn vertex(a: u64, l: i64) -> u16
     v as u16
 }
 
+// Where it turns on 0..=`high`, given where it turns on 0..=10000.
+fn at_most(v: u16, high: u16) -> u16
+    requires { ⌜ high ≤ 10000 ⌝ }
+    ensures { λ r. ⌜ ((a s t : ℕ) → Turn a s t 0 10000 v → Turn a s t 0 high r) ⌝ }
+{
+    if high < v { high } else { v }
+}
+
 // Where it turns on `low`..=`high`, given where it turns on 0..=10000.
 fn clamp(v: u16, low: u16, high: u16) -> u16
     requires { ⌜ (low ≤ high) × (high ≤ 10000) ⌝ }
     ensures { λ r. ⌜ ((a s t : ℕ) → Turn a s t 0 10000 v → Turn a s t low high r) ⌝ }
 {
-    if v < low {
-        return low;
-    }
-    if high < v {
-        return high;
-    }
-    v
+    let below = at_most(v, high);
+    if below < low { low } else { below }
 }
 
 // a × p × p + l × p.
