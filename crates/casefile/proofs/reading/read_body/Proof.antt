@@ -1,78 +1,82 @@
 -- `casefile::reading::read_body` meets its contract, number by number.
-use borrow.Author.Needs.{needs}
-use Rattle.rules.specs.Layout.{unitOfBody}
+use Prim.Native.Nat.{ℕ}
+use native.Mathlib.Omega.{arith}
+use mathlib.Core.Path.{ap, _∙_}
+use denote.Ref.{now}
+use Rattle.rules.specs.Lists.{each}
+use Rattle.rules.specs.Layout.{edgeOfBody, unitOfBody}
 use Rattle.casefile.proofs.reading.read_body.Statement.{statement}
 use Rattle.casefile.proofs.reading.read_body.Tie as tie
 
 read-u32-requires : tie.Need-read-u32-requires
-read-u32-requires c κs = search needs
+read-u32-requires c κs = omega arith
 
 read-u32-requires-2 : tie.Need-read-u32-requires-2
-read-u32-requires-2 c κs = search needs
+read-u32-requires-2 c κs = omega arith
 
-read-u16-requires : tie.Need-read-u16-requires
-read-u16-requires c κs = search needs
+read-word-requires : tie.Need-read-word-requires
+read-word-requires c κs = omega arith
 
-cast-c2 : tie.Need-cast-c2
-cast-c2 c = search needs
+read-word-requires-2 : tie.Need-read-word-requires-2
+read-word-requires-2 c κs = omega arith
 
-read-u16-requires-2 : tie.Need-read-u16-requires-2
-read-u16-requires-2 c κs = search needs
+read-word-requires-3 : tie.Need-read-word-requires-3
+read-word-requires-3 c κs = omega arith
 
-cast-b : tie.Need-cast-b
-cast-b c = search needs
+read-word-requires-4 : tie.Need-read-word-requires-4
+read-word-requires-4 c κs = omega arith
 
-read-u16-requires-3 : tie.Need-read-u16-requires-3
-read-u16-requires-3 c κs = search needs
+read-word-requires-5 : tie.Need-read-word-requires-5
+read-word-requires-5 c κs = omega arith
 
-cast-least : tie.Need-cast-least
-cast-least c = search needs
+read-word-requires-6 : tie.Need-read-word-requires-6
+read-word-requires-6 c κs = omega arith
 
-read-u16-requires-4 : tie.Need-read-u16-requires-4
-read-u16-requires-4 c κs = search needs
+read-word-requires-7 : tie.Need-read-word-requires-7
+read-word-requires-7 c κs = omega arith
 
-cast-greatest : tie.Need-cast-greatest
-cast-greatest c = search needs
+read-word-requires-8 : tie.Need-read-word-requires-8
+read-word-requires-8 c κs = omega arith
 
-read-u16-requires-5 : tie.Need-read-u16-requires-5
-read-u16-requires-5 c κs = search needs
-
-cast-previous : tie.Need-cast-previous
-cast-previous c = search needs
-
-read-u16-requires-6 : tie.Need-read-u16-requires-6
-read-u16-requires-6 c κs = search needs
-
-cast-up : tie.Need-cast-up
-cast-up c = search needs
-
-read-u16-requires-7 : tie.Need-read-u16-requires-7
-read-u16-requires-7 c κs = search needs
-
-cast-down : tie.Need-cast-down
-cast-down c = search needs
-
-read-u16-requires-8 : tie.Need-read-u16-requires-8
-read-u16-requires-8 c κs = search needs
-
-cast-mark : tie.Need-cast-mark
-cast-mark c = search needs
-
-read-u16-requires-9 : tie.Need-read-u16-requires-9
-read-u16-requires-9 c κs = search needs
-
-cast-zone-count : tie.Need-cast-zone-count
-cast-zone-count c = search needs
+read-word-requires-9 : tie.Need-read-word-requires-9
+read-word-requires-9 c κs = omega arith
 
 cast-read-edges : tie.Need-cast-read-edges
-cast-read-edges c = search needs
+cast-read-edges c = omega arith
 
 read-edges-requires : tie.Need-read-edges-requires
-read-edges-requires c κs = search needs
+read-edges-requires c κs = omega arith
 
 returns : tie.Need-returns
 unfolding unitOfBody
-returns c = cc
+returns c =
+    let zone-count = c .before in
+    let mark = zone-count .before in
+    let down = mark .before in
+    let up = down .before in
+    let previous = up .before in
+    let greatest = previous .before in
+    let least = greatest .before in
+    let b = least .before in
+    let c2 = b .before in
+    let c1 = c2 .before in
+    let c0 = c1 .before in
+    let body = now (c0 .before .before .args .body) in
+    λ i.
+    record {
+      c0 = c0 .read-u32 .ensures i;
+      c1 = c1 .read-u322 .ensures i;
+      c2 = c2 .read-word .ensures i;
+      b = b .read-word2 .ensures i;
+      least = least .read-word3 .ensures i;
+      greatest = greatest .read-word4 .ensures i;
+      previous = previous .read-word5 .ensures i;
+      up = up .read-word6 .ensures i;
+      down = down .read-word7 .ensures i;
+      mark = mark .read-word8 .ensures i;
+      zoneCount = zone-count .read-word9 .ensures i;
+      edges = (c .read-edges .ensures ∙ ap (λ (z : ℕ). each 8 (edgeOfBody body z)) (zone-count .read-word9 .ensures)) i;
+    }
 
 pub read-body-spec : {M : Type 1} → statement M
 read-body-spec =
@@ -80,24 +84,15 @@ read-body-spec =
     (tie.spec
     read-u32-requires
     read-u32-requires-2
-    read-u16-requires
-    cast-c2
-    read-u16-requires-2
-    cast-b
-    read-u16-requires-3
-    cast-least
-    read-u16-requires-4
-    cast-greatest
-    read-u16-requires-5
-    cast-previous
-    read-u16-requires-6
-    cast-up
-    read-u16-requires-7
-    cast-down
-    read-u16-requires-8
-    cast-mark
-    read-u16-requires-9
-    cast-zone-count
+    read-word-requires
+    read-word-requires-2
+    read-word-requires-3
+    read-word-requires-4
+    read-word-requires-5
+    read-word-requires-6
+    read-word-requires-7
+    read-word-requires-8
+    read-word-requires-9
     cast-read-edges
     read-edges-requires
     returns)

@@ -21,8 +21,14 @@ loop-holds c = (omega arith, refl)
 mul-loop : tie.Need-mul-loop Inv-loop μ-loop
 mul-loop c = omega arith
 
-read-edge-requires : tie.Need-read-edge-requires Inv-loop μ-loop
-read-edge-requires c κs = omega arith
+mul-read-word : tie.Need-mul-read-word Inv-loop μ-loop
+mul-read-word c = omega arith
+
+add-read-word : tie.Need-add-read-word Inv-loop μ-loop
+add-read-word c = omega arith
+
+read-word-requires : tie.Need-read-word-requires Inv-loop μ-loop
+read-word-requires c κs = omega arith
 
 mul-edges : tie.Need-mul-edges Inv-loop μ-loop
 mul-edges c = omega arith
@@ -40,7 +46,7 @@ loop-again : tie.Need-loop-again Inv-loop μ-loop
 loop-again c =
     let l = c .before .before .loop in
     let f : ℕ → ℕ = λ j. field (now (c .before .before .before .before .args .body)) (26 + 2 * j) 2 in
-    (omega arith, rw (l .inv .1, c .read-edge .ensures) (first-more f (l .k) (omega arith)))
+    (omega arith, rw (l .inv .1, c .read-word .ensures) (first-more f (l .k) (omega arith)))
 
 returns : tie.Need-returns Inv-loop μ-loop
 unfolding edgeOfBody
@@ -58,7 +64,9 @@ read-edges-spec =
     μ-loop
     loop-holds
     mul-loop
-    read-edge-requires
+    mul-read-word
+    add-read-word
+    read-word-requires
     mul-edges
     array-write-edges
     add-k
