@@ -13,10 +13,9 @@ use borrow.Author.Tests.{lt-ltb, le-ltb}
 use Rattle.rules.specs.Layout.{Unit, Zone, zoneAt, zones}
 use Rattle.rules.specs.Refusal.{zonesAscend}
 use Rattle.rules.specs.Unit.{strictlyInside}
+use Rattle.rules.specs.Lists.{all}
 use Rattle.rules.proofs.Lists.{Every, getD-each, length-each, accepts}
 use Rattle.rules.proofs.Sound.{Between as ZoneBetween, ascending}
-use Rattle.pricing.specs.Regions.{low, high}
-use Rattle.pricing.specs.Dividing.{outside}
 
 -- ---- a zone
 
@@ -34,7 +33,12 @@ not-inside-above p z h = by (ltb (z .lower) p)
 inside-zone : (p : ℕ) (z : Zone) → z .lower < p → p < z .upper → not (strictlyInside p z) ≡ false
 inside-zone p z h k = rw (lt-ltb (z .lower) p h, lt-ltb p (z .upper) k)
 
--- below all of some zones
+-- ---- some zones
+
+abbrev pub outside : ℕ → List Zone → Bool
+outside p zs = all (λ z. not (strictlyInside p z)) zs
+
+-- below all of them
 outside-below : (p low high : ℕ) (zs : List Zone) → Every (λ z. ZoneBetween low z high) zs → p ≤ low → outside p zs ≡ true
 outside-below p low high [] e h = refl
 outside-below p low high (z ∷ zs) e h = rw (not-inside-below p z (omega (arith, e .0 .least))) (outside-below p low high zs (e .1) h)

@@ -1,8 +1,9 @@
--- `pricing::offering::regions` meets its contract. The loop keeps what `Dividing` says: the permitted outputs below the end of the last zone.
-use Rattle.rules.proofs.Sound.{Sound, sound, zone-between}
+-- `pricing::offering::regions` meets its contract. The loop keeps what `Dividing` says of the offer that its locals make: it has the permitted outputs below the end of the last zone.
+use Rattle.rules.proofs.Sound.{Sound, sound}
 use Rattle.unit.specs.Held.{unitHeld}
-use Rattle.pricing.specs.Dividing.{Dividing}
-use Rattle.pricing.proofs.Dividing.{pushable, dividing-more, dividing-ends}
+use Rattle.pricing.proofs.Pushing.{Pushable, at-most-one}
+use Rattle.pricing.proofs.Dividing.{Dividing, offerOf, dividing-starts, pushable, dividing-more, dividing-ends}
+use lib.Dec.{leb}
 use borrow.Author.Needs.{needs}
 use native.Mathlib.Omega.{arith}
 use Prim.Native.Nat.{_<_, _-_}
@@ -10,97 +11,116 @@ use Rattle.pricing.proofs.offering.regions.Statement.{statement}
 use Rattle.pricing.proofs.offering.regions.Tie as tie
 
 abbrev Inv-loop : tie.InvT-loop
-Inv-loop u least zone-count edges zones first last o₀ from₀ k₀ o from k = Dividing (unitHeld u) o from k
+Inv-loop u least greatest mark zone-count edges ramp zones lows₀ highs₀ count₀ from₀ k₀ lows highs count from k = Dividing (unitHeld u) (offerOf (unitHeld u) lows highs count) from k
 
 abbrev μ-loop : tie.MeasureT-loop
-μ-loop u least zone-count edges zones first last o₀ from₀ k₀ o from k = zones - k
+μ-loop u least greatest mark zone-count edges ramp zones lows₀ highs₀ count₀ from₀ k₀ lows highs count from k = zones - k
 
--- the unit is sound; where the loop stands
+-- from a turn back to the start, where the unit is sound
+abbrev start : tie.After-smaller Inv-loop μ-loop → tie.Start Inv-loop μ-loop
+start c = c .before .before .before .before .before .before .before
+
 is-sound : (c : tie.Start Inv-loop μ-loop) → Sound (unitHeld (c .args .u))
 is-sound c = sound (unitHeld (c .args .u)) (c .pre)
 
-zones-few : (c : tie.In-loop Inv-loop μ-loop) → c .before .loop .k < 4
-zones-few c = omega (arith, is-sound (c .before .before .before .before .before) .zoneCount)
+-- the interval of a turn may be put behind the regions
+interval : (c : tie.After-smaller Inv-loop μ-loop) → let l = c .before .before .before .before .loop in Pushable (offerOf (unitHeld (start c .args .u)) (l .lows) (l .highs) (l .count)) (c .before .before .before .larger .result) (c .smaller .result)
+interval c =
+    pushable (is-sound (start c)) (c .before .before .before .before .loop .inv) (c .before .before .before .before .before .window .ensures)
+    (c .before .before .before .larger .ensures) (c .before .end .ensures) (c .smaller .ensures)
 
-cast-zones : tie.Need-cast-zones Inv-loop μ-loop
-cast-zones c = omega arith
+-- a zone is left
+zone-left : (c : tie.Else1 Inv-loop μ-loop) → let k = c .before .before .before .before .before .loop .k in (k < start (c .before) .args .u .«zone_count») × (k < 4)
+zone-left c =
+    let l = c .before .before .before .before .before .loop .inv .zone in
+    (omega arith, omega (arith, is-sound (start (c .before)) .zoneCount))
 
 window-requires : tie.Need-window-requires Inv-loop μ-loop
 window-requires c κs = search needs
 
-standing-requires : tie.Need-standing-requires Inv-loop μ-loop
-standing-requires c κs = search needs
+cast-zones : tie.Need-cast-zones Inv-loop μ-loop
+cast-zones c = omega arith
+
+cast-count : tie.Need-cast-count Inv-loop μ-loop
+cast-count c = tt
 
 loop-holds : tie.Need-loop-holds Inv-loop μ-loop
-loop-holds c = c .standing .ensures
+loop-holds c = dividing-starts (is-sound (c .before .before))
 
 larger-requires : tie.Need-larger-requires Inv-loop μ-loop
-larger-requires c κs = search needs
+larger-requires c κs = tt
 
-mul-smaller : tie.Need-mul-smaller Inv-loop μ-loop
-mul-smaller c = omega (arith, zones-few (c .before))
-
-mul-smaller-2 : tie.Need-mul-smaller-2 Inv-loop μ-loop
-mul-smaller-2 c = omega (arith, zones-few (c .before))
-
-array-read-smaller : tie.Need-array-read-smaller Inv-loop μ-loop
-array-read-smaller c = omega (arith, zones-few (c .before))
+end-requires : tie.Need-end-requires Inv-loop μ-loop
+end-requires c κs = is-sound (c .before .before .before .before .before) .zoneCount
 
 smaller-requires : tie.Need-smaller-requires Inv-loop μ-loop
-smaller-requires c κs = search needs
+smaller-requires c κs = tt
 
-push-requires : tie.Need-push-requires Inv-loop μ-loop
-push-requires c κs =
-    let l = c .before .before .before .loop in
-    let start = c .before .before .before .before .before .before .before in
-    let z = zone-between (is-sound start) (l .k) (omega arith) in
-    rw (c .before .larger .ensures, c .smaller .ensures)
-    (pushable (is-sound start) (l .inv) (c .before .before .before .before .before .window .ensures) (omega (arith, z)))
+cast-lows : tie.Need-cast-lows Inv-loop μ-loop
+cast-lows c = omega (arith, interval c)
 
-mul-from : tie.Need-mul-from Inv-loop μ-loop
-mul-from c = omega (arith, zones-few (c .before .before .before))
+mul-lows : tie.Need-mul-lows Inv-loop μ-loop
+mul-lows c = omega (arith, interval c)
 
-add-from : tie.Need-add-from Inv-loop μ-loop
-add-from c = omega (arith, zones-few (c .before .before .before))
+array-write-lows : tie.Need-array-write-lows Inv-loop μ-loop
+array-write-lows c = omega (arith, interval c)
 
-mul-from-2 : tie.Need-mul-from-2 Inv-loop μ-loop
-mul-from-2 c = omega (arith, zones-few (c .before .before .before))
+cast-highs : tie.Need-cast-highs Inv-loop μ-loop
+cast-highs c = omega (arith, interval c)
 
-array-read-from : tie.Need-array-read-from Inv-loop μ-loop
-array-read-from c = omega (arith, zones-few (c .before .before .before))
+mul-highs : tie.Need-mul-highs Inv-loop μ-loop
+mul-highs c = omega (arith, interval c)
 
-add-k : tie.Need-add-k Inv-loop μ-loop
-add-k c = omega (arith, zones-few (c .before .before .before))
+array-write-highs : tie.Need-array-write-highs Inv-loop μ-loop
+array-write-highs c = omega (arith, interval c)
 
-loop-less : tie.Need-loop-less Inv-loop μ-loop
-loop-less c = omega arith
+cast-count-2 : tie.Need-cast-count-2 Inv-loop μ-loop
+cast-count-2 c = tt
 
-loop-again : tie.Need-loop-again Inv-loop μ-loop
-loop-again c =
-    let l = c .before .before .before .before .loop in
-    let start = c .before .before .before .before .before .before .before .before in
-    let cut = rw (c .before .before .larger .ensures, c .before .smaller .ensures) at (c .push .ensures) in
-    dividing-more (is-sound start) (l .inv) (c .before .before .before .before .before .before .window .ensures) (omega arith) cut
+add-count : tie.Need-add-count Inv-loop μ-loop
+add-count c = omega (arith, interval c, at-most-one (leb (c .before .before .before .larger .result) (c .smaller .result)))
 
-larger-requires-2 : tie.Need-larger-requires-2 Inv-loop μ-loop
-larger-requires-2 c κs = search needs
+cast-t26 : tie.Need-cast-t26 Inv-loop μ-loop
+cast-t26 c = omega arith
 
-smaller-requires-2 : tie.Need-smaller-requires-2 Inv-loop μ-loop
-smaller-requires-2 c κs = search needs
+cast-t27 : tie.Need-cast-t27 Inv-loop μ-loop
+cast-t27 c = omega arith
 
-push-requires-2 : tie.Need-push-requires-2 Inv-loop μ-loop
-push-requires-2 c κs =
-    let l = c .before .before .before .loop in
-    let start = c .before .before .before .before .before .before .before in
-    rw (c .before .larger2 .ensures, c .smaller2 .ensures)
-    (pushable (is-sound start) (l .inv) (c .before .before .before .before .before .window .ensures) (omega arith))
+cast-t28 : tie.Need-cast-t28 Inv-loop μ-loop
+cast-t28 c = omega arith
+
+cast-t29 : tie.Need-cast-t29 Inv-loop μ-loop
+cast-t29 c = omega arith
 
 returns : tie.Need-returns Inv-loop μ-loop
 returns c =
-    let l = c .before .before .before .before .loop in
-    let start = c .before .before .before .before .before .before .before .before in
-    let cut = rw (c .before .before .larger2 .ensures, c .before .smaller2 .ensures) at (c .push2 .ensures) in
-    dividing-ends (is-sound start) (l .inv) (c .before .before .before .before .before .before .window .ensures) (omega (arith, l .inv .zone)) cut
+    let turn = c .before .before .before .before .before in
+    dividing-ends (is-sound (start turn)) (turn .before .before .before .before .loop .inv) (turn .before .before .before .before .before .window .ensures)
+    (turn .before .before .before .larger .ensures) (turn .before .end .ensures) (turn .smaller .ensures) (c .before .before .before .before .if1 .taken)
+
+mul-from : tie.Need-mul-from Inv-loop μ-loop
+mul-from c = omega (arith, zone-left c)
+
+add-from : tie.Need-add-from Inv-loop μ-loop
+add-from c = omega (arith, zone-left c)
+
+mul-from-2 : tie.Need-mul-from-2 Inv-loop μ-loop
+mul-from-2 c = omega (arith, zone-left c)
+
+array-read-from : tie.Need-array-read-from Inv-loop μ-loop
+array-read-from c = omega (arith, zone-left c)
+
+add-k : tie.Need-add-k Inv-loop μ-loop
+add-k c = omega (arith, zone-left c)
+
+loop-less : tie.Need-loop-less Inv-loop μ-loop
+loop-less c = omega (arith, zone-left c)
+
+loop-again : tie.Need-loop-again Inv-loop μ-loop
+loop-again c =
+    let turn = c .before in
+    dividing-more (is-sound (start turn)) (turn .before .before .before .before .loop .inv) (turn .before .before .before .before .before .window .ensures)
+    (turn .before .before .before .larger .ensures) (turn .before .end .ensures) (turn .smaller .ensures) (zone-left c .0)
 
 pub regions-spec : {M : Type 1} → statement M
 regions-spec =
@@ -108,24 +128,30 @@ regions-spec =
     (tie.spec
     Inv-loop
     μ-loop
-    cast-zones
     window-requires
-    standing-requires
+    cast-zones
+    cast-count
     loop-holds
     larger-requires
-    mul-smaller
-    mul-smaller-2
-    array-read-smaller
+    end-requires
     smaller-requires
-    push-requires
+    cast-lows
+    mul-lows
+    array-write-lows
+    cast-highs
+    mul-highs
+    array-write-highs
+    cast-count-2
+    add-count
+    cast-t26
+    cast-t27
+    cast-t28
+    cast-t29
+    returns
     mul-from
     add-from
     mul-from-2
     array-read-from
     add-k
     loop-less
-    loop-again
-    larger-requires-2
-    smaller-requires-2
-    push-requires-2
-    returns)
+    loop-again)
