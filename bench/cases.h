@@ -1,0 +1,35 @@
+/* Case files for the benchmark, made from a fixed seed. */
+#ifndef CASES_H
+#define CASES_H
+
+#include "shahfureel.h"
+
+#include <stddef.h>
+#include <stdint.h>
+
+enum { CASES_IN_GROUP = 256 };
+
+struct case_file {
+    size_t length;
+    uint8_t bytes[SHAHFUREEL_FILE_BYTES_MAX];
+};
+
+/* Cases alike in size: each unit has as many zones. Tried are the cases made, kept or not. */
+struct group {
+    uint32_t units, zones, tried;
+    struct case_file cases[CASES_IN_GROUP];
+};
+
+/* The next number of a pseudorandom sequence, from least to greatest. */
+uint32_t random_between(uint64_t *state, uint32_t least, uint32_t greatest);
+
+/* Fills a group with cases that dispatch answers after 18 evaluations, the most there are. */
+void make_group(struct group *g, uint32_t units, uint32_t zones, uint64_t seed);
+
+/* Makes a small case of round numbers, in which choices tie and nets are equal. Dispatch may answer it or refuse it with 11. */
+void make_small_case(uint64_t *state, struct case_file *c);
+
+/* The same cases with a demand that no allocation covers, which step 1 refuses. */
+void refuse_group(struct group *refused, const struct group *g);
+
+#endif

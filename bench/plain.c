@@ -1,0 +1,400 @@
+/* A plain C program of document 01's dispatch, from file bytes to reply bytes: what the controller is measured against.
+ * It checks and decodes each unit once, finds its permitted outputs once as regions, and makes one division a unit and
+ * evaluation. It is tested, not proved. */
+#include "plain.h"
+
+enum { UNITS_MAX = 32, ZONES_MAX = 4, REGIONS_MAX = 6 };
+enum { HEAD_BYTES = 8, ENTRY_BYTES = 4, BODY_BYTES_MIN = 26, ZONE_BYTES = 4 };
+enum { REPLY_BYTES_MIN = 92, OUTPUTS_AT = 28 };
+enum { DEMAND_MAX = 320000, OUTPUT_MAX = 10000, MULTIPLIER_MAX = 65536 };
+
+#define NET_OF_STEP INT64_C(100000000)
+#define PRICED_OF_COST INT64_C(100000)
+
+enum refusal {
+    ACCEPTED = 0,
+    BUFFER_TOO_SHORT = 1,
+    FILE_TOO_SHORT = 2,
+    EDITION_UNKNOWN = 3,
+    COUNT_OUT_OF_RANGE = 4,
+    DEMAND_OUT_OF_RANGE = 5,
+    CONTENTS_INVALID = 6,
+    ZONE_COUNT_INVALID = 7,
+    COEFFICIENT_OUT_OF_RANGE = 8,
+    LIMITS_INVALID = 9,
+    RAMP_OR_MARK_OUT_OF_RANGE = 10,
+    NO_ALLOCATION = 11
+};
+
+struct unit {
+    uint32_t c0, c1, c2, b;
+    int32_t least, greatest, previous, up, down;
+    uint32_t mark, zone_count;
+    int32_t edges[2 * ZONES_MAX];
+};
+
+struct region {
+    int32_t low, high;
+};
+
+/* A unit's coefficients, and its permitted outputs as regions that ascend. */
+struct offer {
+    int64_t c0, c1, c2, b;
+    int32_t region_count;
+    struct region regions[REGIONS_MAX];
+};
+
+struct problem {
+    int64_t target; /* the demand, as a net */
+    uint32_t count;
+    struct offer offers[UNITS_MAX];
+};
+
+struct allocation {
+    uint16_t outputs[UNITS_MAX];
+    int64_t cost, net;
+};
+
+struct solution {
+    struct allocation best;
+    int64_t floor;
+    uint32_t evaluations;
+};
+
+/* ---- fields */
+
+static uint32_t read_u16(const uint8_t *at)
+{
+    return (uint32_t)at[0] << 8 | at[1];
+}
+
+static uint32_t read_u32(const uint8_t *at)
+{
+    return (uint32_t)at[0] << 24 | (uint32_t)at[1] << 16 | (uint32_t)at[2] << 8 | at[3];
+}
+
+static void write_u16(uint8_t *at, uint32_t n)
+{
+    at[0] = (uint8_t)(n >> 8);
+    at[1] = (uint8_t)n;
+}
+
+static void write_u64(uint8_t *at, uint64_t n)
+{
+    for (int i = 0; i < 8; i++)
+        at[i] = (uint8_t)(n >> (56 - 8 * i));
+}
+
+/* ---- checking and reading */
+
+static enum refusal check_head(const uint8_t *file, size_t length)
+{
+    if (length < HEAD_BYTES)
+        return FILE_TOO_SHORT;
+    if (read_u16(file) != 1)
+        return EDITION_UNKNOWN;
+    uint32_t count = read_u16(file + 2);
+    if (count < 1 || count > UNITS_MAX)
+        return COUNT_OUT_OF_RANGE;
+    if (read_u32(file + 4) > DEMAND_MAX)
+        return DEMAND_OUT_OF_RANGE;
+    return ACCEPTED;
+}
+
+static int legal_size(uint32_t size)
+{
+    return size == 26 || size == 30 || size == 34 || size == 38 || size == 42;
+}
+
+static enum refusal check_contents(const uint8_t *file, size_t length, uint32_t count)
+{
+    size_t start = HEAD_BYTES + ENTRY_BYTES * count;
+    if (length < start)
+        return CONTENTS_INVALID;
+    for (uint32_t i = 0; i < count; i++) {
+        const uint8_t *entry = file + HEAD_BYTES + ENTRY_BYTES * i;
+        uint32_t size = read_u16(entry + 2);
+        if (read_u16(entry) != start || !legal_size(size))
+            return CONTENTS_INVALID;
+        start += size;
+    }
+    return start == length ? ACCEPTED : CONTENTS_INVALID;
+}
+
+static void read_unit(const uint8_t *body, struct unit *u)
+{
+    u->c0 = read_u32(body);
+    u->c1 = read_u32(body + 4);
+    u->c2 = read_u16(body + 8);
+    u->b = read_u16(body + 10);
+    u->least = (int32_t)read_u16(body + 12);
+    u->greatest = (int32_t)read_u16(body + 14);
+    u->previous = (int32_t)read_u16(body + 16);
+    u->up = (int32_t)read_u16(body + 18);
+    u->down = (int32_t)read_u16(body + 20);
+    u->mark = read_u16(body + 22);
+    u->zone_count = read_u16(body + 24);
+    for (uint32_t k = 0; k < 2 * u->zone_count; k++)
+        u->edges[k] = (int32_t)read_u16(body + BODY_BYTES_MIN + 2 * k);
+}
+
+static int zones_ascend(const struct unit *u)
+{
+    int32_t below = u->least;
+    for (uint32_t k = 0; k < 2 * u->zone_count; k++) {
+        if (u->edges[k] <= below)
+            return 0;
+        below = u->edges[k];
+    }
+    return below < u->greatest;
+}
+
+static enum refusal check_unit(const struct unit *u)
+{
+    if (u->c0 > 1000000000 || u->c1 > 10000000 || u->c2 > 1000 || u->b > 5000)
+        return COEFFICIENT_OUT_OF_RANGE;
+    if (u->least < 1 || u->greatest <= u->least || u->greatest > OUTPUT_MAX || !zones_ascend(u))
+        return LIMITS_INVALID;
+    if (u->previous > OUTPUT_MAX || u->up > OUTPUT_MAX || u->down > OUTPUT_MAX || u->mark > 1)
+        return RAMP_OR_MARK_OUT_OF_RANGE;
+    return ACCEPTED;
+}
+
+static enum refusal read_body(const uint8_t *body, uint32_t size, struct unit *u)
+{
+    uint32_t zone_count = read_u16(body + 24);
+    if (zone_count > ZONES_MAX || size != BODY_BYTES_MIN + ZONE_BYTES * zone_count)
+        return ZONE_COUNT_INVALID;
+    read_unit(body, u);
+    return check_unit(u);
+}
+
+/* ---- permitted outputs */
+
+static void add_region(struct offer *o, int32_t low, int32_t high)
+{
+    if (low > high)
+        return;
+    o->regions[o->region_count].low = low;
+    o->regions[o->region_count].high = high;
+    o->region_count++;
+}
+
+static int32_t larger(int32_t a, int32_t b)
+{
+    return a > b ? a : b;
+}
+
+static int32_t smaller(int32_t a, int32_t b)
+{
+    return a < b ? a : b;
+}
+
+static void find_regions(const struct unit *u, struct offer *o)
+{
+    int32_t first = u->previous == 0 ? 0 : u->previous - u->down;
+    int32_t last = u->previous == 0 ? OUTPUT_MAX : u->previous + u->up;
+    int32_t low = u->least;
+    o->region_count = 0;
+    if (u->mark == 0)
+        add_region(o, 0, 0);
+    for (uint32_t k = 0; k < u->zone_count; k++) {
+        add_region(o, larger(low, first), smaller(u->edges[2 * k], last));
+        low = u->edges[2 * k + 1];
+    }
+    add_region(o, larger(low, first), smaller(u->greatest, last));
+}
+
+static void make_offer(const struct unit *u, struct offer *o)
+{
+    o->c0 = u->c0;
+    o->c1 = u->c1;
+    o->c2 = u->c2;
+    o->b = u->b;
+    find_regions(u, o);
+}
+
+static enum refusal read_units(const uint8_t *file, struct problem *q)
+{
+    for (uint32_t i = 0; i < q->count; i++) {
+        const uint8_t *entry = file + HEAD_BYTES + ENTRY_BYTES * i;
+        struct unit u;
+        enum refusal r = read_body(file + read_u16(entry), read_u16(entry + 2), &u);
+        if (r != ACCEPTED)
+            return r;
+        make_offer(&u, &q->offers[i]);
+    }
+    return ACCEPTED;
+}
+
+static enum refusal read_case(const uint8_t *file, size_t length, struct problem *q)
+{
+    enum refusal r = check_head(file, length);
+    if (r != ACCEPTED)
+        return r;
+    q->count = read_u16(file + 2);
+    q->target = NET_OF_STEP * read_u32(file + 4);
+    r = check_contents(file, length, q->count);
+    if (r != ACCEPTED)
+        return r;
+    return read_units(file, q);
+}
+
+/* ---- cost, net and choice */
+
+static int64_t cost_of(const struct offer *o, int64_t p)
+{
+    return o->c0 + (o->c1 + o->c2 * p) * p;
+}
+
+static int64_t net_of(const struct offer *o, int64_t p)
+{
+    return (NET_OF_STEP - o->b * p) * p;
+}
+
+/* The output, the greater of two on a tie, where square * p * p + linear * p is least on 0 to 10,000. */
+static int64_t vertex(int64_t square, int64_t linear)
+{
+    if (square == 0)
+        return linear <= 0 ? OUTPUT_MAX : 0;
+    if (square < linear)
+        return 0;
+    int64_t v = (square - linear) / (2 * square);
+    return v > OUTPUT_MAX ? OUTPUT_MAX : v;
+}
+
+static int64_t clamp(int64_t p, int64_t low, int64_t high)
+{
+    return p < low ? low : p > high ? high : p;
+}
+
+/* The permitted output of least priced cost, the greatest on a tie. The part of the priced cost that is the same for every
+ * output, 100,000 * c0, is left out. */
+static int64_t choose(const struct offer *o, int64_t m)
+{
+    int64_t square = PRICED_OF_COST * o->c2 + m * o->b;
+    int64_t linear = PRICED_OF_COST * o->c1 - m * NET_OF_STEP;
+    int64_t v = vertex(square, linear);
+    int64_t best = clamp(v, o->regions[0].low, o->regions[0].high);
+    int64_t least = (square * best + linear) * best;
+    for (int32_t k = 1; k < o->region_count; k++) {
+        int64_t p = clamp(v, o->regions[k].low, o->regions[k].high);
+        int64_t priced = (square * p + linear) * p;
+        if (priced <= least) {
+            best = p;
+            least = priced;
+        }
+    }
+    return best;
+}
+
+/* ---- steps 1 to 4 */
+
+static void add_output(struct allocation *a, const struct offer *o, uint32_t i, int64_t p)
+{
+    a->outputs[i] = (uint16_t)p;
+    a->cost += cost_of(o, p);
+    a->net += net_of(o, p);
+}
+
+/* Step 1: the greatest outputs, and whether every unit has one and they cover. */
+static int greatest_outputs(const struct problem *q, struct allocation *a)
+{
+    a->cost = a->net = 0;
+    for (uint32_t i = 0; i < q->count; i++) {
+        const struct offer *o = &q->offers[i];
+        if (o->region_count == 0)
+            return 0;
+        add_output(a, o, i, o->regions[o->region_count - 1].high);
+    }
+    return a->net >= q->target;
+}
+
+static int64_t divided_up(int64_t n, int64_t by)
+{
+    return n > 0 ? (n - 1) / by + 1 : n / by;
+}
+
+/* The choices of one multiplier, and its floor. The dual value is the choices' priced cost and the demand's price. */
+static int64_t evaluate(const struct problem *q, int64_t m, struct allocation *a)
+{
+    a->cost = a->net = 0;
+    for (uint32_t i = 0; i < q->count; i++)
+        add_output(a, &q->offers[i], i, choose(&q->offers[i], m));
+    return divided_up(PRICED_OF_COST * a->cost - m * (a->net - q->target), PRICED_OF_COST);
+}
+
+/* Evaluates a multiplier, counts it, and keeps the greatest floor. */
+static void try_multiplier(const struct problem *q, int64_t m, struct solution *s, struct allocation *choices)
+{
+    int64_t floor = evaluate(q, m, choices);
+    if (s->evaluations == 0 || floor > s->floor)
+        s->floor = floor;
+    s->evaluations++;
+}
+
+/* Step 4. */
+static void halve(const struct problem *q, struct solution *s)
+{
+    struct allocation choices;
+    int64_t low = 0, high = MULTIPLIER_MAX;
+    while (high - low > 1) {
+        int64_t middle = (low + high) / 2;
+        try_multiplier(q, middle, s, &choices);
+        if (choices.net < q->target) {
+            low = middle;
+            continue;
+        }
+        s->best = choices;
+        if (choices.net == q->target)
+            return;
+        high = middle;
+    }
+}
+
+/* Steps 2 to 4, from the greatest outputs as the best. */
+static void search(const struct problem *q, struct solution *s)
+{
+    struct allocation choices;
+    s->evaluations = 0;
+    try_multiplier(q, 0, s, &choices);
+    if (choices.net >= q->target) {
+        s->best = choices;
+        return;
+    }
+    try_multiplier(q, MULTIPLIER_MAX, s, &choices);
+    if (choices.net < q->target)
+        return;
+    s->best = choices;
+    if (choices.net > q->target)
+        halve(q, s);
+}
+
+/* ---- the reply */
+
+static uint32_t write_reply(uint8_t *reply, const struct problem *q, const struct solution *s)
+{
+    write_u16(reply, q->count);
+    write_u16(reply + 2, s->evaluations);
+    write_u64(reply + 4, (uint64_t)s->best.cost);
+    write_u64(reply + 12, (uint64_t)(s->best.cost - s->floor));
+    write_u64(reply + 20, (uint64_t)(s->best.net - q->target));
+    for (uint32_t i = 0; i < q->count; i++)
+        write_u16(reply + OUTPUTS_AT + 2 * i, s->best.outputs[i]);
+    return OUTPUTS_AT + 2 * q->count;
+}
+
+uint32_t plain_dispatch(const uint8_t *file, size_t file_length, uint8_t *reply, size_t reply_length)
+{
+    struct problem q;
+    struct solution s;
+    if (reply_length < REPLY_BYTES_MIN)
+        return BUFFER_TOO_SHORT;
+    enum refusal r = read_case(file, file_length, &q);
+    if (r != ACCEPTED)
+        return r;
+    if (!greatest_outputs(&q, &s.best))
+        return NO_ALLOCATION;
+    search(&q, &s);
+    return write_reply(reply, &q, &s);
+}

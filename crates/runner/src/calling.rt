@@ -1,0 +1,192 @@
+// Each public call on one case: its answer on one line, with whether the rest of the lent buffer kept its contents, and as a
+// number: the refusal's, or 0.
+ghost use Prim.Native.Nat.{_≤_};
+ghost use lib.ListN.{length};
+use crate::printing::decimals;
+use crate::printing::hexadecimal;
+use crate::printing::least;
+use crate::printing::number;
+use crate::printing::rest;
+use crate::printing::signed;
+use crate::printing::word;
+use rules::Dispatched;
+use rules::Packed;
+use rules::Priced;
+use rules::Refusal;
+use rules::Unpacked;
+
+fn fill_bytes(bytes: &mut [u8]) {
+    let mut i = 0;
+    while i < bytes.len() {
+        bytes[i] = 165;
+        i += 1;
+    }
+}
+
+fn fill_numbers(numbers: &mut [u32]) {
+    let mut i = 0;
+    while i < numbers.len() {
+        numbers[i] = 2779096485;
+        i += 1;
+    }
+}
+
+// Whether the bytes from `from` on are what they were before the call.
+fn bytes_kept(bytes: &[u8], from: usize) -> bool {
+    let mut i = from;
+    while i < bytes.len() {
+        if bytes[i] != 165 {
+            return false;
+        }
+        i += 1;
+    }
+    true
+}
+
+// Whether the numbers from `from` on are what they were before the call.
+fn numbers_kept(numbers: &[u32], from: usize) -> bool {
+    let mut i = from;
+    while i < numbers.len() {
+        if numbers[i] != 2779096485 {
+            return false;
+        }
+        i += 1;
+    }
+    true
+}
+
+fn print_refusal(r: Refusal) -> u32 {
+    let n = rules::number(r);
+    number(b"refused ", n as u64);
+    n
+}
+
+// The bytes that a call wrote, and the rest of its buffer.
+fn print_written(bytes: &[u8], length: usize) {
+    number(b"", length as u64);
+    word(b" ");
+    hexadecimal(bytes, length);
+    word(b" ");
+    rest(bytes_kept(bytes, length));
+}
+
+fn refused_bytes(r: Refusal, bytes: &[u8]) -> u32 {
+    let n = print_refusal(r);
+    word(b" ");
+    rest(bytes_kept(bytes, 0));
+    n
+}
+
+// The reply's buffer is lent as far as there is room.
+fn dispatch(file: &[u8], room: usize, bytes: &mut [u8]) -> u32 {
+    let lent = least(room, bytes.len());
+    fill_bytes(bytes);
+    let answer = bisection::dispatch(file, &mut bytes[..lent]);
+    match answer {
+        Dispatched::Refused(r) => refused_bytes(r, bytes),
+        Dispatched::Replied(length) => {
+            print_written(bytes, length);
+            0
+        }
+    }
+}
+
+fn print_priced(dual: i64, covers: bool) {
+    signed(dual);
+    if covers {
+        word(b" covered\n");
+    } else {
+        word(b" uncovered\n");
+    }
+}
+
+fn price(file: &[u8], m: u32) -> u32 {
+    let answer = pricing::price(file, m);
+    match answer {
+        Priced::Refused(r) => {
+            let n = print_refusal(r);
+            word(b"\n");
+            n
+        }
+        Priced::Valued { dual, covers } => {
+            print_priced(dual, covers);
+            0
+        }
+    }
+}
+
+// The numbers of a list of rows, 4 bytes each, at the start of rows; answers how many.
+fn read_rows(given: &[u8], rows: &mut [u32]) -> usize
+    ensures { λ n. ⌜ n ≤ length (now (rows .exit)) ⌝ }
+{
+    let count = least(given.len() / 4, rows.len());
+    let mut i = 0;
+    while i < count {
+        rows[i] = fields::read_u32(given, 4 * i);
+        i += 1;
+    }
+    i
+}
+
+// The file's buffer is lent as far as there is room.
+fn pack(demand: u32, given: &[u8], room: usize, bytes: &mut [u8], numbers: &mut [u32]) -> u32 {
+    let lent = least(room, bytes.len());
+    let count = read_rows(given, numbers);
+    fill_bytes(bytes);
+    let answer = packing::pack(demand, &numbers[..count], &mut bytes[..lent]);
+    match answer {
+        Packed::Refused(r) => refused_bytes(r, bytes),
+        Packed::Written(length) => {
+            print_written(bytes, length);
+            0
+        }
+    }
+}
+
+fn print_unpacked(demand: u32, count: u32, rows: &[u32]) {
+    number(b"", demand as u64);
+    number(b" ", count as u64);
+    let written = 19 * count as usize;
+    decimals(rows, written);
+    word(b" ");
+    rest(numbers_kept(rows, written));
+}
+
+// The rows' list is lent as far as there is room.
+fn unpack(file: &[u8], room: usize, numbers: &mut [u32]) -> u32 {
+    let lent = least(room, numbers.len());
+    fill_numbers(numbers);
+    let answer = unpacking::unpack(file, &mut numbers[..lent]);
+    match answer {
+        Unpacked::Refused(r) => {
+            let n = print_refusal(r);
+            word(b" ");
+            rest(numbers_kept(numbers, 0));
+            n
+        }
+        Unpacked::Read { demand, count } => {
+            print_unpacked(demand, count, numbers);
+            0
+        }
+    }
+}
+
+// The call that the record names, on what it gives.
+pub fn run(
+    call: u16,
+    argument: u32,
+    room: usize,
+    given: &[u8],
+    bytes: &mut [u8],
+    numbers: &mut [u32],
+) -> u32 {
+    if call == 1 {
+        dispatch(given, room, bytes)
+    } else if call == 2 {
+        price(given, argument)
+    } else if call == 3 {
+        pack(argument, given, room, bytes, numbers)
+    } else {
+        unpack(given, room, numbers)
+    }
+}

@@ -1,0 +1,331 @@
+//! Compares the library's four C calls with the second solver on fresh cases: `bulk SECONDS [SEED]`, or `bulk --case SEED` to
+//! repeat one case. Answers and whole buffers have to be equal, with what lies before and behind the lent parts.
+
+use second_solver::calls::{bytes_of, Call};
+use second_solver::generate::kinds;
+use second_solver::random::Random;
+use second_solver::solver::{self, Refused};
+use second_solver::tally::Tally;
+use second_solver::{hex, promise, vectors};
+use std::fmt::Debug;
+use std::time::{Duration, Instant, SystemTime};
+
+const LONG: usize = 65_536;
+const MOST_ALLOCATIONS: usize = 200_000;
+const MOST_OFFERS: usize = 300;
+
+extern "C" {
+    fn shahfureel_dispatch(file: *const u8, file_length: usize, reply: *mut u8, reply_length: usize) -> u32;
+    fn shahfureel_price(file: *const u8, file_length: usize, multiplier: u32, answers: *mut i64, answers_length: usize) -> u32;
+    fn shahfureel_pack(demand: u32, rows: *const u32, rows_length: usize, file: *mut u8, file_length: usize) -> u32;
+    fn shahfureel_unpack(
+        file: *const u8,
+        file_length: usize,
+        rows: *mut u32,
+        rows_length: usize,
+        answers: *mut i64,
+        answers_length: usize,
+    ) -> u32;
+}
+
+// ---- lent buffers
+
+/// A list of which a part is lent; the rest guards it on both sides.
+#[derive(Clone, Debug, PartialEq)]
+struct Lent<T> {
+    whole: Vec<T>,
+    start: usize,
+    length: usize,
+}
+
+impl<T: Clone> Lent<T> {
+    /// Lends `length` elements at a random place, amid random elements.
+    fn random(length: usize, random: &mut Random, element: fn(&mut Random) -> T) -> Lent<T> {
+        let start = 1 + random.below(16);
+        let size = start + length + 1 + random.below(64);
+        Lent { whole: (0..size).map(|_| element(random)).collect(), start, length }
+    }
+
+    fn holding(content: &[T], random: &mut Random, element: fn(&mut Random) -> T) -> Lent<T> {
+        let mut lent = Lent::random(content.len(), random, element);
+        lent.part().clone_from_slice(content);
+        lent
+    }
+
+    fn part(&mut self) -> &mut [T] {
+        &mut self.whole[self.start..self.start + self.length]
+    }
+}
+
+fn random_byte(random: &mut Random) -> u8 {
+    random.next() as u8
+}
+
+fn random_u32(random: &mut Random) -> u32 {
+    random.next() as u32
+}
+
+fn random_i64(random: &mut Random) -> i64 {
+    random.next() as i64
+}
+
+/// All buffers of one call; those that a call does not have are empty.
+#[derive(Clone, Debug, PartialEq)]
+struct Buffers {
+    bytes_in: Lent<u8>,
+    rows_in: Lent<u32>,
+    bytes_out: Lent<u8>,
+    rows_out: Lent<u32>,
+    answers: Lent<i64>,
+}
+
+impl Buffers {
+    fn new(call: &Call, random: &mut Random) -> Buffers {
+        let (file, rows): (&[u8], &[u32]) = match call {
+            Call::Dispatch { file, .. } | Call::Price { file, .. } | Call::Unpack { file, .. } => (file, &[]),
+            Call::Pack { rows, .. } => (&[], rows),
+        };
+        let (bytes_out, rows_out) = match call {
+            Call::Dispatch { room, .. } => (some_room(*room, 92, random), 0),
+            Call::Pack { room, .. } => (some_room(*room, *room, random), 0),
+            Call::Unpack { room, .. } => (0, some_room(*room, 608, random)),
+            Call::Price { .. } => (0, 0),
+        };
+        let answers = random.pick(&[0, 1, 2, 2, 2, 2, 2, 2, 2, 2, 3, 9]);
+        Buffers {
+            bytes_in: Lent::holding(file, random, random_byte),
+            rows_in: Lent::holding(rows, random, random_u32),
+            bytes_out: Lent::random(bytes_out, random, random_byte),
+            rows_out: Lent::random(rows_out, random, random_u32),
+            answers: Lent::random(answers, random, random_i64),
+        }
+    }
+}
+
+/// The case's own room, or another near the room that is needed, or any, or rarely one that 16 bits cannot hold.
+fn some_room(own: usize, needed: usize, random: &mut Random) -> usize {
+    if random.chance(200) {
+        return LONG + random.below(needed + 1);
+    }
+    if random.chance(2) {
+        return own;
+    }
+    let any = random.below(2 * needed + 2);
+    random.pick(&[0, needed.saturating_sub(1), needed, needed + 1, any])
+}
+
+/// The call, rarely with a file that is longer by what 16 bits cannot hold.
+fn sometimes_padded(mut call: Call, random: &mut Random) -> Call {
+    match &mut call {
+        Call::Dispatch { file, .. } | Call::Price { file, .. } | Call::Unpack { file, .. } if random.chance(200) => {
+            file.resize(file.len() + LONG, 0);
+        }
+        _ => {}
+    }
+    call
+}
+
+// ---- both answers
+
+fn library_answer(call: &Call, buffers: &mut Buffers) -> u32 {
+    let file = buffers.bytes_in.part();
+    let rows = buffers.rows_in.part();
+    let bytes_out = buffers.bytes_out.part();
+    let rows_out = buffers.rows_out.part();
+    let answers = buffers.answers.part();
+    // Each pointer is that of a part of a list that lives on, with the part's length; no two parts overlap.
+    unsafe {
+        match call {
+            Call::Dispatch { .. } => {
+                shahfureel_dispatch(file.as_mut_ptr(), file.len(), bytes_out.as_mut_ptr(), bytes_out.len())
+            }
+            Call::Price { multiplier, .. } => {
+                shahfureel_price(file.as_mut_ptr(), file.len(), *multiplier, answers.as_mut_ptr(), answers.len())
+            }
+            Call::Pack { demand, .. } => {
+                shahfureel_pack(*demand, rows.as_mut_ptr(), rows.len(), bytes_out.as_mut_ptr(), bytes_out.len())
+            }
+            Call::Unpack { .. } => shahfureel_unpack(
+                file.as_mut_ptr(),
+                file.len(),
+                rows_out.as_mut_ptr(),
+                rows_out.len(),
+                answers.as_mut_ptr(),
+                answers.len(),
+            ),
+        }
+    }
+}
+
+fn solver_answer(call: &Call, buffers: &mut Buffers) -> u32 {
+    match call {
+        Call::Dispatch { file, .. } => solver::panel_dispatch(file, buffers.bytes_out.part()),
+        Call::Price { file, multiplier } => solver::panel_price(file, *multiplier, buffers.answers.part()),
+        Call::Pack { demand, rows, .. } => solver::panel_pack(*demand, rows, buffers.bytes_out.part()),
+        Call::Unpack { file, .. } => solver::panel_unpack(file, buffers.rows_out.part(), buffers.answers.part()),
+    }
+}
+
+/// The refusal that a number of a C call stands for.
+fn refusal(call: &Call, number: u32) -> Option<Refused> {
+    let answered = match call {
+        Call::Dispatch { .. } | Call::Pack { .. } => number >= 30,
+        Call::Price { .. } | Call::Unpack { .. } => number == 0,
+    };
+    if answered {
+        None
+    } else {
+        Some(Refused(number))
+    }
+}
+
+// ---- comparing
+
+/// Makes one call both ways. Gives the library's answer and buffers, or an error that tells the difference.
+fn compare(call: &Call, random: &mut Random) -> Result<(u32, Buffers), String> {
+    let before = Buffers::new(call, random);
+    let (mut by_library, mut by_solver) = (before.clone(), before.clone());
+    let library = library_answer(call, &mut by_library);
+    let solver = solver_answer(call, &mut by_solver);
+    if library != solver || by_library != by_solver {
+        return Err(difference(call, (library, &by_library), (solver, &by_solver)));
+    }
+    if refusal(call, library).is_some() && by_library != before {
+        return Err(difference(call, (library, &by_library), (solver, &before)));
+    }
+    Ok((library, by_library))
+}
+
+fn difference(call: &Call, library: (u32, &Buffers), solver: (u32, &Buffers)) -> String {
+    let mut text = format!("{}\n", input_text(call));
+    text += &format!(
+        "lent: {} bytes, {} numbers of rows, {} answers\n",
+        library.1.bytes_out.length, library.1.rows_out.length, library.1.answers.length
+    );
+    text += &format!("the library returns {}, the solver {}\n", library.0, solver.0);
+    text += &buffer_difference("input bytes", &library.1.bytes_in, &solver.1.bytes_in);
+    text += &buffer_difference("input rows", &library.1.rows_in, &solver.1.rows_in);
+    text += &buffer_difference("bytes", &library.1.bytes_out, &solver.1.bytes_out);
+    text += &buffer_difference("rows", &library.1.rows_out, &solver.1.rows_out);
+    text += &buffer_difference("answers", &library.1.answers, &solver.1.answers);
+    text
+}
+
+fn input_text(call: &Call) -> String {
+    match call {
+        Call::Dispatch { file, .. } => format!("dispatch: file {}", hex(file)),
+        Call::Price { file, multiplier } => format!("price: multiplier {}, file {}", multiplier, hex(file)),
+        Call::Pack { demand, rows, .. } => format!("pack: demand {}, rows {}", demand, hex(&bytes_of(rows))),
+        Call::Unpack { file, .. } => format!("unpack: file {}", hex(file)),
+    }
+}
+
+/// The elements that differ, by their place from the start of the lent part.
+fn buffer_difference<T: PartialEq + Debug>(name: &str, library: &Lent<T>, solver: &Lent<T>) -> String {
+    let mut text = String::new();
+    for (place, (one, other)) in library.whole.iter().zip(&solver.whole).enumerate() {
+        if one != other {
+            let place = place as i64 - library.start as i64;
+            text += &format!("{} at {}: the library has {:?}, the solver {:?}\n", name, place, one, other);
+        }
+    }
+    text
+}
+
+/// Checks a dispatch of the library against demand 3, if the file is accepted and small. Tells whether it did.
+fn check_promise(call: &Call, number: u32, buffers: &mut Buffers) -> Result<bool, String> {
+    let file = match call {
+        Call::Dispatch { file, .. } => file,
+        _ => return Ok(false),
+    };
+    let answer = match refusal(call, number) {
+        None => Ok(&buffers.bytes_out.part()[..number as usize]),
+        Some(Refused(11)) => Err(Refused(11)),
+        Some(_) => return Ok(false),
+    };
+    let case = solver::decode(file).map_err(|refused| format!("{} is refused with {}", hex(file), refused.0))?;
+    if !promise::is_small(&case, MOST_ALLOCATIONS, MOST_OFFERS) {
+        return Ok(false);
+    }
+    promise::check(file, answer).map(|()| true)
+}
+
+// ---- cases and runs
+
+#[derive(Default)]
+struct Run {
+    tally: Tally,
+    cases: u64,
+    promises: u64,
+}
+
+impl Run {
+    /// Makes the case of a seed: a kind, its calls, and in one case of 50 the brute force of demand 3.
+    fn case(&mut self, seed: u64) -> Result<(), String> {
+        let mut random = Random::new(seed);
+        let kind = random.pick(&kinds());
+        let by_brute_force = random.chance(50);
+        for call in (kind.make)(&mut random) {
+            let call = sometimes_padded(call, &mut random);
+            let (number, mut buffers) = compare(&call, &mut random)?;
+            self.tally.count(call.index(), refusal(&call, number));
+            if by_brute_force && check_promise(&call, number, &mut buffers)? {
+                self.promises += 1;
+            }
+        }
+        self.cases += 1;
+        Ok(())
+    }
+
+    fn case_or_exit(&mut self, seed: u64) {
+        if let Err(text) = self.case(seed) {
+            println!("{}\ncase seed {}: repeat it with `bulk --case {}`", text.trim_end(), seed, seed);
+            std::process::exit(1);
+        }
+    }
+
+    fn print(&self) {
+        println!("{} calls of {} cases compared, {} dispatches by brute force", self.tally.total(), self.cases, self.promises);
+        for line in self.tally.lines() {
+            println!("{}", line);
+        }
+    }
+}
+
+/// Runs cases of a seed for some seconds. A long run has to reach every refusal.
+fn run_for(seconds: u64, seed: u64) {
+    println!("seed {}", seed);
+    let end = Instant::now() + Duration::from_secs(seconds);
+    let mut run = Run::default();
+    let mut seeds = Random::new(seed);
+    while Instant::now() < end {
+        run.case_or_exit(seeds.next());
+    }
+    run.print();
+    if run.cases >= 1_000 {
+        run.tally.assert_complete();
+    }
+    println!("repeat this run with seed {}", seed);
+}
+
+fn clock() -> u64 {
+    let now = SystemTime::now().duration_since(SystemTime::UNIX_EPOCH);
+    now.map_or(0, |time| time.as_nanos() as u64)
+}
+
+fn main() {
+    let arguments: Vec<String> = std::env::args().skip(1).collect();
+    let arguments: Vec<&str> = arguments.iter().map(String::as_str).collect();
+    let number = |text: &str| text.parse::<u64>().expect("a number");
+    vectors::check();
+    match arguments.as_slice() {
+        ["--case", seed] => {
+            let mut run = Run::default();
+            run.case_or_exit(number(seed));
+            run.print();
+        }
+        [seconds] => run_for(number(seconds), clock()),
+        [seconds, seed] => run_for(number(seconds), number(seed)),
+        _ => panic!("usage: bulk SECONDS [SEED], or bulk --case SEED"),
+    }
+}

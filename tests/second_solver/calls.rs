@@ -1,0 +1,32 @@
+//! The four calls of document 01, with their inputs and the size of the buffer that is lent.
+
+#[derive(Clone, Debug)]
+pub enum Call {
+    Dispatch { file: Vec<u8>, room: usize },
+    Price { file: Vec<u8>, multiplier: u32 },
+    Pack { demand: u32, rows: Vec<u32>, room: usize },
+    Unpack { file: Vec<u8>, room: usize },
+}
+
+/// The names of the calls, in the order of their indices.
+pub const NAMES: [&str; 4] = ["dispatch", "price", "pack", "unpack"];
+
+impl Call {
+    pub fn index(&self) -> usize {
+        match self {
+            Call::Dispatch { .. } => 0,
+            Call::Price { .. } => 1,
+            Call::Pack { .. } => 2,
+            Call::Unpack { .. } => 3,
+        }
+    }
+
+    pub fn name(&self) -> &'static str {
+        NAMES[self.index()]
+    }
+}
+
+/// Rows as bytes, 4 to a number, most significant byte first.
+pub fn bytes_of(rows: &[u32]) -> Vec<u8> {
+    rows.iter().flat_map(|number| number.to_be_bytes()).collect()
+}

@@ -1,0 +1,400 @@
+//! Damaged files and rows: fields at and past their limits, faults of every number, and two faults at once.
+
+use crate::calls::Call;
+use crate::generate::{calls_of_file, pack, small_case, small_unit, with_demand};
+use crate::random::Random;
+use crate::solver::{self, Case, Unit};
+
+/// The greatest values of the numbers of a row, by index; the rest have limits of their own.
+const LIMITS: [(usize, u32); 9] =
+    [(0, 1_000_000_000), (1, 10_000_000), (2, 1_000), (3, 5_000), (5, 10_000), (6, 10_000), (7, 10_000), (8, 10_000), (9, 1)];
+
+const LEAST: usize = 4;
+const GREATEST: usize = 5;
+const ZONE_COUNT: usize = 10;
+const FIRST_EDGE: usize = 11;
+
+// ---- one number of a file or of rows
+
+fn set(file: &mut [u8], at: usize, width: usize, value: u32) {
+    file[at..at + width].copy_from_slice(&value.to_be_bytes()[4 - width..]);
+}
+
+fn get(file: &[u8], at: usize) -> u32 {
+    u32::from(file[at]) * 256 + u32::from(file[at + 1])
+}
+
+/// Sets the number of a body that has this index in a row.
+fn set_in_body(file: &mut [u8], unit: usize, index: usize, value: u32) {
+    let body = get(file, 8 + 4 * unit) as usize;
+    if index < 2 {
+        set(file, body + 4 * index, 4, value);
+    } else {
+        set(file, body + 4 + 2 * index, 2, value);
+    }
+}
+
+/// One changed number of a unit.
+#[derive(Clone, Copy)]
+struct Change {
+    unit: usize,
+    index: usize,
+    value: u32,
+}
+
+fn changed_file(case: &Case, changes: &[Change]) -> Vec<u8> {
+    let mut file = solver::encode(case);
+    for change in changes {
+        set_in_body(&mut file, change.unit, change.index, change.value);
+    }
+    file
+}
+
+fn changed_rows(case: &Case, changes: &[Change]) -> Vec<u32> {
+    let mut rows = solver::rows_of(case);
+    for change in changes {
+        rows[19 * change.unit + change.index] = change.value;
+    }
+    rows
+}
+
+fn pack_rows(case: &Case, rows: Vec<u32>) -> Call {
+    Call::Pack { demand: case.demand as u32, rows, room: 1_600 }
+}
+
+/// Three small units, each with a zone.
+fn base(random: &mut Random) -> Case {
+    let units = (0..3).map(|_| zoned_unit(random)).collect();
+    with_demand(units, random)
+}
+
+fn zoned_unit(random: &mut Random) -> Unit {
+    loop {
+        let unit = small_unit(random);
+        if !unit.zones.is_empty() {
+            return unit;
+        }
+    }
+}
+
+fn unit_of_most_zones(case: &Case) -> usize {
+    (0..case.units.len()).max_by_key(|unit| case.units[*unit].zones.len()).expect("a unit")
+}
+
+// ---- every field
+
+/// Each number of a unit just at and just past its limits.
+pub fn fields_at_limits(random: &mut Random) -> Vec<Call> {
+    let case = base(random);
+    let unit = unit_of_most_zones(&case);
+    let mut calls = Vec::new();
+    for change in at_limits(&case, unit) {
+        calls.extend(calls_of_file(&changed_file(&case, &[change]), random));
+        calls.push(pack_rows(&case, changed_rows(&case, &[change])));
+    }
+    calls
+}
+
+fn at_limits(case: &Case, unit: usize) -> Vec<Change> {
+    let change = |index: usize, value: u32| Change { unit, index, value };
+    let mut changes = vec![change(LEAST, 0), change(LEAST, 1)];
+    for (index, limit) in LIMITS {
+        changes.push(change(index, limit));
+        changes.push(change(index, limit + 1));
+    }
+    let zones = case.units[unit].zones.len() as u32;
+    for count in [zones - 1, zones + 1, 5, 65_535] {
+        changes.push(change(ZONE_COUNT, count));
+    }
+    let values = solver::limits_and_edges(&case.units[unit]);
+    let mut indices = vec![LEAST];
+    indices.extend(FIRST_EDGE..FIRST_EDGE + 2 * zones as usize);
+    indices.push(GREATEST);
+    for (before, index) in values.iter().zip(&indices[1..]) {
+        changes.push(change(*index, *before as u32));
+        changes.push(change(*index, *before as u32 + 1));
+    }
+    changes
+}
+
+/// Edition, count and demand at and past their limits.
+pub fn head_at_limits(random: &mut Random) -> Vec<Call> {
+    let file = solver::encode(&small_case(random));
+    let fields: [(usize, usize, &[u32]); 3] = [
+        (0, 2, &[0, 2, 256, 257, 65_535]),
+        (2, 2, &[0, 1, 32, 33, 256, 65_535]),
+        (4, 4, &[320_000, 320_001, 16_777_216, u32::MAX]),
+    ];
+    let mut calls = Vec::new();
+    for (at, width, values) in fields {
+        for value in values {
+            let mut changed = file.clone();
+            set(&mut changed, at, width, *value);
+            calls.extend(calls_of_file(&changed, random));
+        }
+    }
+    calls
+}
+
+// ---- lengths and contents
+
+pub fn cut_and_padded(random: &mut Random) -> Vec<Call> {
+    let case = small_case(random);
+    let file = solver::encode(&case);
+    let contents_end = 8 + 4 * case.units.len();
+    let mut lengths = vec![0, 1, 7, 8, contents_end - 1, contents_end, file.len() - 1, file.len() - 2];
+    lengths.push(random.below(file.len()));
+    lengths.extend([file.len() + 1, file.len() + 26, 1_480, 1_481, 2_560]);
+    let mut calls = Vec::new();
+    for length in lengths {
+        let mut changed = file.clone();
+        changed.resize(length, random.pick(&[0, 255]));
+        calls.extend(calls_of_file(&changed, random));
+    }
+    calls
+}
+
+/// Entries that name other places than the bodies', and bodies of other lengths than their entries'.
+pub fn wrong_contents(random: &mut Random) -> Vec<Call> {
+    let case = base(random);
+    let unit = random.below(3);
+    let file = solver::encode(&case);
+    let entry = 8 + 4 * unit;
+    let (offset, length) = (get(&file, entry), get(&file, entry + 2));
+    let mut changes: Vec<(usize, u32)> =
+        [0, 8, offset - 1, offset + 1, offset * 256, 65_535].map(|value| (entry, value)).to_vec();
+    changes.extend([0, 22, 26, 27, 30, 34, 38, 42, 46, length - 1, length + 4, 65_535].map(|value| (entry + 2, value)));
+    let mut files: Vec<Vec<u8>> = Vec::new();
+    for (at, value) in changes {
+        let mut changed = file.clone();
+        set(&mut changed, at, 2, value);
+        files.push(changed);
+    }
+    files.extend([swapped_entries(&file), shifted_end_of_first_body(&file), unit_more_than_bodies(&file)]);
+    files.push(with_gap_before(&file, unit));
+    files.extend([22, 25, 27, 28, 46].map(|length| with_last_body_of(&file, length)));
+    files.iter().flat_map(|file| calls_of_file(file, random)).collect()
+}
+
+fn swapped_entries(file: &[u8]) -> Vec<u8> {
+    let mut file = file.to_vec();
+    let (first, second) = file[8..16].split_at_mut(4);
+    first.swap_with_slice(second);
+    file
+}
+
+/// The first body ends four bytes later than its zones do; the contents are as they must be.
+fn shifted_end_of_first_body(file: &[u8]) -> Vec<u8> {
+    let mut file = file.to_vec();
+    let (length, offset, other) = (get(&file, 10), get(&file, 12), get(&file, 14));
+    set(&mut file, 10, 2, length + 4);
+    set(&mut file, 12, 2, offset + 4);
+    set(&mut file, 14, 2, other - 4);
+    file
+}
+
+/// Four bytes that belong to no body stand before a body; the entries name the bodies where they are.
+fn with_gap_before(file: &[u8], unit: usize) -> Vec<u8> {
+    let mut file = file.to_vec();
+    let gap = get(&file, 8 + 4 * unit) as usize;
+    for moved in unit..get(&file, 2) as usize {
+        let offset = get(&file, 8 + 4 * moved);
+        set(&mut file, 8 + 4 * moved, 2, offset + 4);
+    }
+    file.splice(gap..gap, [0; 4]);
+    file
+}
+
+/// The last body has this length, and the contents and the file's end agree with it.
+fn with_last_body_of(file: &[u8], length: u32) -> Vec<u8> {
+    let mut file = file.to_vec();
+    let entry = 4 + 4 * get(&file, 2) as usize;
+    set(&mut file, entry + 2, 2, length);
+    let offset = get(&file, entry);
+    file.resize((offset + length) as usize, 0);
+    file
+}
+
+fn unit_more_than_bodies(file: &[u8]) -> Vec<u8> {
+    let mut file = file.to_vec();
+    let count = get(&file, 2);
+    set(&mut file, 2, 2, count + 1);
+    file
+}
+
+// ---- bytes
+
+/// A field with its bytes swapped, all edges of a unit with swapped bytes, and some changed bytes.
+pub fn swapped_and_changed_bytes(random: &mut Random) -> Vec<Call> {
+    let case = base(random);
+    let file = solver::encode(&case);
+    let mut field_swapped = file.clone();
+    let at = 2 * random.below(file.len() / 2);
+    field_swapped.swap(at, at + 1);
+    let mut changed = file.clone();
+    for _ in 0..random.pick(&[1, 1, 2, 3]) {
+        changed[random.below(file.len())] = random.next() as u8;
+    }
+    let mut bit_changed = file.clone();
+    bit_changed[random.below(file.len())] ^= 1 << random.below(8);
+    let files = [field_swapped, edges_swapped(&case, random.below(3)), changed, bit_changed];
+    files.iter().flat_map(|file| calls_of_file(file, random)).collect()
+}
+
+fn edges_swapped(case: &Case, unit: usize) -> Vec<u8> {
+    let mut case = case.clone();
+    let swapped = |value: i128| i128::from((value as u16).swap_bytes());
+    for (lower, upper) in &mut case.units[unit].zones {
+        *lower = swapped(*lower);
+        *upper = swapped(*upper);
+    }
+    solver::encode(&case)
+}
+
+// ---- two faults
+
+/// A change of a unit that is refused with this number, 7 to 10.
+fn fault(number: u32, unit: usize, random: &mut Random) -> Change {
+    let past = |limits: &[(usize, u32)], random: &mut Random| {
+        let (index, limit) = random.pick(limits);
+        (index, limit + 1)
+    };
+    let (index, value) = match number {
+        7 => (ZONE_COUNT, 5),
+        8 => past(&LIMITS[..4], random),
+        9 => random.pick(&[(LEAST, 0), (LEAST, 10_000), (GREATEST, 0), (GREATEST, 10_001), (FIRST_EDGE, 0)]),
+        _ => past(&LIMITS[5..], random),
+    };
+    Change { unit, index, value }
+}
+
+/// Damages a file so that it is refused with this number, 2 to 6.
+fn damage_file(file: &mut Vec<u8>, number: u32, random: &mut Random) {
+    match number {
+        2 => file.truncate(random.below(8)),
+        3 => set(file, 0, 2, random.pick(&[0, 2, 256])),
+        4 => set(file, 2, 2, random.pick(&[0, 33, 65_535])),
+        5 => set(file, 4, 4, random.pick(&[320_001, u32::MAX])),
+        _ => file.push(0),
+    }
+}
+
+/// Two faults of different places, of one unit, and of two units in either order.
+pub fn two_faults(random: &mut Random) -> Vec<Call> {
+    let case = base(random);
+    let mut calls = Vec::new();
+    for first in 2..=6 {
+        for second in first + 1..=10 {
+            let mut file = damaged_by(&case, second, random);
+            damage_file(&mut file, first, random);
+            calls.push(any_call_of_file(&file, random));
+        }
+    }
+    for first in 7..=10 {
+        for second in 7..=10 {
+            let (unit, other) = random.pick(&[(0, 1), (0, 2), (1, 2)]);
+            calls.extend(two_changes(&case, (first, unit), (second, other), random));
+            if first < second {
+                calls.extend(two_changes(&case, (first, unit), (second, unit), random));
+            }
+        }
+    }
+    calls
+}
+
+fn damaged_by(case: &Case, number: u32, random: &mut Random) -> Vec<u8> {
+    if number >= 7 {
+        return changed_file(case, &[fault(number, random.below(3), random)]);
+    }
+    let mut file = solver::encode(case);
+    damage_file(&mut file, number, random);
+    file
+}
+
+/// A file and rows with two faults, each a number and a unit.
+fn two_changes(case: &Case, first: (u32, usize), second: (u32, usize), random: &mut Random) -> Vec<Call> {
+    let changes = [fault(first.0, first.1, random), fault(second.0, second.1, random)];
+    let call = any_call_of_file(&changed_file(case, &changes), random);
+    vec![call, pack_rows(case, changed_rows(case, &changes))]
+}
+
+fn any_call_of_file(file: &[u8], random: &mut Random) -> Call {
+    let calls = calls_of_file(file, random);
+    random.pick(&calls)
+}
+
+// ---- rows
+
+pub fn damaged_rows(random: &mut Random) -> Vec<Call> {
+    let case = base(random);
+    let mut calls = wrong_row_counts(&case, random);
+    calls.extend(beyond_the_fields(&case, random));
+    calls.extend(unused_edges(&case, random));
+    calls.extend(two_faults_of_packing(&case, random));
+    calls.push(pack(&case, random));
+    calls
+}
+
+/// Lists of rows of every wrong length, first with rows that are right and then with wrong rows and demand.
+fn wrong_row_counts(case: &Case, random: &mut Random) -> Vec<Call> {
+    let rows: Vec<u32> = solver::rows_of(case).into_iter().cycle().take(640).collect();
+    let mut calls = Vec::new();
+    for length in [0, 1, 18, 20, 37, 607, 608, 609, 627, 640] {
+        calls.push(pack_rows(case, rows[..length].to_vec()));
+    }
+    for length in [0, 18, 20, 627] {
+        let wrong = vec![u32::MAX; length];
+        let demand = random.pick(&[0, u32::MAX]);
+        calls.push(Call::Pack { demand, rows: wrong, room: 0 });
+    }
+    calls
+}
+
+/// Numbers that a field of 16 bits would cut to a legal value, and the greatest numbers of 32 bits.
+fn beyond_the_fields(case: &Case, random: &mut Random) -> Vec<Call> {
+    let unit = random.below(3);
+    let rows = solver::rows_of(case);
+    let mut calls = Vec::new();
+    for index in 0..FIRST_EDGE + 2 * case.units[unit].zones.len() {
+        let value = rows[19 * unit + index];
+        let beyond = if index < 2 { u32::MAX } else { value + 65_536 };
+        calls.push(pack_rows(case, changed_rows(case, &[Change { unit, index, value: beyond }])));
+    }
+    calls
+}
+
+/// A unit of one zone with a number behind it that is not zero, and zone counts that do not fit the edges.
+fn unused_edges(case: &Case, random: &mut Random) -> Vec<Call> {
+    let unit = random.below(3);
+    let mut case = case.clone();
+    case.units[unit].zones.truncate(1);
+    let mut calls = Vec::new();
+    for index in FIRST_EDGE + 2..19 {
+        let value = random.pick(&[1, 65_536, u32::MAX]);
+        calls.push(pack_rows(&case, changed_rows(&case, &[Change { unit, index, value }])));
+    }
+    for value in [0, 2, 5, 65_536, 65_537, u32::MAX] {
+        calls.push(pack_rows(&case, changed_rows(&case, &[Change { unit, index: ZONE_COUNT, value }])));
+    }
+    calls
+}
+
+/// 12, 5, a fault of a row, and 13, by twos.
+fn two_faults_of_packing(case: &Case, random: &mut Random) -> Vec<Call> {
+    let demand = case.demand as u32;
+    let rows = solver::rows_of(case);
+    let short = rows[..rows.len() - 1].to_vec();
+    let mut calls = vec![
+        Call::Pack { demand: 320_001, rows: short.clone(), room: 1_600 },
+        Call::Pack { demand, rows: short, room: 0 },
+        Call::Pack { demand: 320_001, rows: rows.clone(), room: 0 },
+        Call::Pack { demand: 320_001, rows: rows.clone(), room: 1_600 },
+        Call::Pack { demand: 320_000, rows, room: 1_600 },
+    ];
+    for number in 7..=10 {
+        let wrong = changed_rows(case, &[fault(number, random.below(3), random)]);
+        calls.push(Call::Pack { demand: 320_001, rows: wrong.clone(), room: 1_600 });
+        calls.push(Call::Pack { demand, rows: wrong, room: 0 });
+    }
+    calls
+}

@@ -1,0 +1,15 @@
+//! The second solver and its test cases, shared by the two programs.
+
+pub mod calls;
+pub mod damage;
+pub mod generate;
+pub mod promise;
+pub mod random;
+pub mod solver;
+pub mod tally;
+pub mod vectors;
+
+/// Bytes in lower-case hexadecimal.
+pub fn hex(bytes: &[u8]) -> String {
+    bytes.iter().map(|byte| format!("{:02x}", byte)).collect()
+}

@@ -1,0 +1,478 @@
+//! Document 01 as a plain solver: a unit's choice is found by trying every output, and every number has 128 bits.
+
+pub const GREATEST_MULTIPLIER: i128 = 65_536;
+pub const NET_OF_A_STEP: i128 = 100_000_000;
+pub const COST_SCALE: i128 = 100_000;
+
+/// A refusal, by its number.
+#[derive(Clone, Copy, Debug, PartialEq, Eq)]
+pub struct Refused(pub u32);
+
+fn refuse_if(condition: bool, number: u32) -> Result<(), Refused> {
+    if condition {
+        Err(Refused(number))
+    } else {
+        Ok(())
+    }
+}
+
+// ---- the case file
+
+#[derive(Clone, Debug, PartialEq, Eq)]
+pub struct Unit {
+    pub c0: i128,
+    pub c1: i128,
+    pub c2: i128,
+    pub b: i128,
+    pub least: i128,
+    pub greatest: i128,
+    pub previous: i128,
+    pub up: i128,
+    pub down: i128,
+    pub mark: i128,
+    /// Lower and upper edge of each zone.
+    pub zones: Vec<(i128, i128)>,
+}
+
+#[derive(Clone, Debug, PartialEq, Eq)]
+pub struct Case {
+    pub demand: i128,
+    pub units: Vec<Unit>,
+}
+
+fn field(bytes: &[u8], at: usize, width: usize) -> i128 {
+    bytes[at..at + width].iter().fold(0, |value, byte| value * 256 + i128::from(*byte))
+}
+
+/// Reads a file and makes every check before step 1.
+pub fn decode(file: &[u8]) -> Result<Case, Refused> {
+    refuse_if(file.len() < 8, 2)?;
+    refuse_if(field(file, 0, 2) != 1, 3)?;
+    let count = field(file, 2, 2);
+    refuse_if(!(1..=32).contains(&count), 4)?;
+    let demand = field(file, 4, 4);
+    check_demand(demand)?;
+    let bodies = bodies(file, count as usize)?;
+    let units = bodies.into_iter().map(decode_body).collect::<Result<_, _>>()?;
+    Ok(Case { demand, units })
+}
+
+fn check_demand(demand: i128) -> Result<(), Refused> {
+    refuse_if(demand > 320_000, 5)
+}
+
+/// The parts of the file that the contents name.
+fn bodies(file: &[u8], count: usize) -> Result<Vec<&[u8]>, Refused> {
+    let mut end = 8 + 4 * count;
+    refuse_if(file.len() < end, 6)?;
+    let mut bodies = Vec::new();
+    for entry in 0..count {
+        let offset = field(file, 8 + 4 * entry, 2) as usize;
+        let length = field(file, 10 + 4 * entry, 2) as usize;
+        refuse_if(offset != end || ![26, 30, 34, 38, 42].contains(&length), 6)?;
+        end = offset + length;
+        refuse_if(file.len() < end, 6)?;
+        bodies.push(&file[offset..end]);
+    }
+    refuse_if(file.len() != end, 6)?;
+    Ok(bodies)
+}
+
+fn decode_body(body: &[u8]) -> Result<Unit, Refused> {
+    let zone_count = field(body, 24, 2);
+    refuse_if(zone_count > 4 || 26 + 4 * zone_count != body.len() as i128, 7)?;
+    let edge = |index: usize| field(body, 26 + 2 * index, 2);
+    let unit = Unit {
+        c0: field(body, 0, 4),
+        c1: field(body, 4, 4),
+        c2: field(body, 8, 2),
+        b: field(body, 10, 2),
+        least: field(body, 12, 2),
+        greatest: field(body, 14, 2),
+        previous: field(body, 16, 2),
+        up: field(body, 18, 2),
+        down: field(body, 20, 2),
+        mark: field(body, 22, 2),
+        zones: (0..zone_count as usize).map(|zone| (edge(2 * zone), edge(2 * zone + 1))).collect(),
+    };
+    check_unit(&unit)?;
+    Ok(unit)
+}
+
+fn check_unit(unit: &Unit) -> Result<(), Refused> {
+    refuse_if(unit.c0 > 1_000_000_000 || unit.c1 > 10_000_000 || unit.c2 > 1_000 || unit.b > 5_000, 8)?;
+    let limits = limits_and_edges(unit);
+    let rising = limits.windows(2).all(|pair| pair[0] < pair[1]);
+    refuse_if(unit.least < 1 || unit.greatest > 10_000 || !rising, 9)?;
+    refuse_if(unit.previous > 10_000 || unit.up > 10_000 || unit.down > 10_000 || unit.mark > 1, 10)
+}
+
+/// Least, the edges in order, greatest.
+pub fn limits_and_edges(unit: &Unit) -> Vec<i128> {
+    let mut limits = vec![unit.least];
+    for (lower, upper) in &unit.zones {
+        limits.push(*lower);
+        limits.push(*upper);
+    }
+    limits.push(unit.greatest);
+    limits
+}
+
+fn put(bytes: &mut Vec<u8>, value: i128, width: usize) {
+    bytes.extend_from_slice(&value.to_be_bytes()[16 - width..]);
+}
+
+/// Writes a case as a file, without checks: a field keeps its low bits.
+pub fn encode(case: &Case) -> Vec<u8> {
+    let mut file = Vec::new();
+    put(&mut file, 1, 2);
+    put(&mut file, case.units.len() as i128, 2);
+    put(&mut file, case.demand, 4);
+    let mut offset = 8 + 4 * case.units.len();
+    for unit in &case.units {
+        let length = 26 + 4 * unit.zones.len();
+        put(&mut file, offset as i128, 2);
+        put(&mut file, length as i128, 2);
+        offset += length;
+    }
+    for unit in &case.units {
+        encode_body(&mut file, unit);
+    }
+    file
+}
+
+fn encode_body(file: &mut Vec<u8>, unit: &Unit) {
+    put(file, unit.c0, 4);
+    put(file, unit.c1, 4);
+    for value in [unit.c2, unit.b, unit.least, unit.greatest, unit.previous, unit.up, unit.down, unit.mark] {
+        put(file, value, 2);
+    }
+    put(file, unit.zones.len() as i128, 2);
+    for (lower, upper) in &unit.zones {
+        put(file, *lower, 2);
+        put(file, *upper, 2);
+    }
+}
+
+// ---- the planner's rows
+
+/// Writes a case as rows, without checks: a number keeps its low 32 bits.
+pub fn rows_of(case: &Case) -> Vec<u32> {
+    case.units.iter().flat_map(row_of).collect()
+}
+
+fn row_of(unit: &Unit) -> Vec<u32> {
+    let mut row = vec![unit.c0, unit.c1, unit.c2, unit.b, unit.least, unit.greatest];
+    row.extend([unit.previous, unit.up, unit.down, unit.mark, unit.zones.len() as i128]);
+    for (lower, upper) in &unit.zones {
+        row.push(*lower);
+        row.push(*upper);
+    }
+    row.resize(19, 0);
+    row.into_iter().map(|number| number as u32).collect()
+}
+
+fn unit_of_row(row: &[u32]) -> Result<Unit, Refused> {
+    let zone_count = row[10] as usize;
+    refuse_if(zone_count > 4, 7)?;
+    let (used, unused) = row[11..].split_at(2 * zone_count);
+    refuse_if(unused.iter().any(|edge| *edge != 0), 7)?;
+    let number = |index: usize| i128::from(row[index]);
+    let unit = Unit {
+        c0: number(0),
+        c1: number(1),
+        c2: number(2),
+        b: number(3),
+        least: number(4),
+        greatest: number(5),
+        previous: number(6),
+        up: number(7),
+        down: number(8),
+        mark: number(9),
+        zones: used.chunks(2).map(|pair| (i128::from(pair[0]), i128::from(pair[1]))).collect(),
+    };
+    check_unit(&unit)?;
+    Ok(unit)
+}
+
+/// Packs a demand and rows; the answer is the file's length.
+pub fn pack(demand: u32, rows: &[u32], file: &mut [u8]) -> Result<usize, Refused> {
+    refuse_if(rows.is_empty() || rows.len() % 19 != 0 || rows.len() > 608, 12)?;
+    check_demand(i128::from(demand))?;
+    let units = rows.chunks(19).map(unit_of_row).collect::<Result<_, _>>()?;
+    let bytes = encode(&Case { demand: i128::from(demand), units });
+    refuse_if(file.len() < bytes.len(), 13)?;
+    file[..bytes.len()].copy_from_slice(&bytes);
+    Ok(bytes.len())
+}
+
+#[derive(Clone, Copy, Debug, PartialEq, Eq)]
+pub struct Unpacked {
+    pub demand: i128,
+    pub count: usize,
+}
+
+pub fn unpack(file: &[u8], rows: &mut [u32]) -> Result<Unpacked, Refused> {
+    refuse_if(rows.len() < 608, 1)?;
+    let case = decode(file)?;
+    let numbers = rows_of(&case);
+    rows[..numbers.len()].copy_from_slice(&numbers);
+    Ok(Unpacked { demand: case.demand, count: case.units.len() })
+}
+
+// ---- permitted outputs, cost, net
+
+pub fn permitted(unit: &Unit, output: i128) -> bool {
+    if output == 0 {
+        return unit.mark == 0;
+    }
+    let within_limits = unit.least <= output && output <= unit.greatest;
+    let in_a_zone = unit.zones.iter().any(|(lower, upper)| *lower < output && output < *upper);
+    let within_ramp = unit.previous - unit.down <= output && output <= unit.previous + unit.up;
+    within_limits && !in_a_zone && (unit.previous == 0 || within_ramp)
+}
+
+pub fn cost(unit: &Unit, output: i128) -> i128 {
+    unit.c0 + unit.c1 * output + unit.c2 * output * output
+}
+
+pub fn net(unit: &Unit, output: i128) -> i128 {
+    NET_OF_A_STEP * output - unit.b * output * output
+}
+
+/// A permitted output of a unit, with its cost and net.
+#[derive(Clone, Copy, Debug, PartialEq, Eq)]
+pub struct Offer {
+    pub output: i128,
+    pub cost: i128,
+    pub net: i128,
+}
+
+/// The permitted outputs of a unit, rising.
+pub fn offers(unit: &Unit) -> Vec<Offer> {
+    (0..=unit.greatest)
+        .filter(|output| permitted(unit, *output))
+        .map(|output| Offer { output, cost: cost(unit, output), net: net(unit, output) })
+        .collect()
+}
+
+pub type Allocation = Vec<Offer>;
+
+pub fn total_cost(allocation: &[Offer]) -> i128 {
+    allocation.iter().map(|offer| offer.cost).sum()
+}
+
+pub fn total_net(allocation: &[Offer]) -> i128 {
+    allocation.iter().map(|offer| offer.net).sum()
+}
+
+// ---- choice, floor, bisection
+
+/// A case after step 1: every unit has a permitted output, and the greatest together cover the demand.
+pub struct Problem {
+    pub demand_net: i128,
+    pub offers: Vec<Vec<Offer>>,
+    pub greatest: Allocation,
+}
+
+/// Step 1.
+pub fn problem(case: &Case) -> Result<Problem, Refused> {
+    let demand_net = NET_OF_A_STEP * case.demand;
+    let offers: Vec<Vec<Offer>> = case.units.iter().map(offers).collect();
+    let greatest: Option<Allocation> = offers.iter().map(|unit| unit.last().copied()).collect();
+    match greatest {
+        Some(greatest) if total_net(&greatest) >= demand_net => Ok(Problem { demand_net, offers, greatest }),
+        _ => Err(Refused(11)),
+    }
+}
+
+pub struct Evaluation {
+    pub choices: Allocation,
+    pub dual: i128,
+}
+
+pub fn priced_cost(offer: &Offer, multiplier: i128) -> i128 {
+    COST_SCALE * offer.cost - multiplier * offer.net
+}
+
+/// The offer of least priced cost, the greatest on a tie.
+fn choice(offers: &[Offer], multiplier: i128) -> Offer {
+    let mut chosen = offers[0];
+    let mut least = priced_cost(&chosen, multiplier);
+    for offer in offers {
+        let priced = priced_cost(offer, multiplier);
+        if priced <= least {
+            chosen = *offer;
+            least = priced;
+        }
+    }
+    chosen
+}
+
+impl Problem {
+    pub fn evaluate(&self, multiplier: i128) -> Evaluation {
+        let choices: Allocation = self.offers.iter().map(|unit| choice(unit, multiplier)).collect();
+        let priced: i128 = choices.iter().map(|offer| priced_cost(offer, multiplier)).sum();
+        Evaluation { choices, dual: priced + multiplier * self.demand_net }
+    }
+
+    pub fn surplus(&self, allocation: &[Offer]) -> i128 {
+        total_net(allocation) - self.demand_net
+    }
+}
+
+/// The dual value divided by 100,000, rounded up.
+pub fn floor(dual: i128) -> i128 {
+    -(-dual).div_euclid(COST_SCALE)
+}
+
+/// The best allocation, and the floors of all evaluations in the order in which they were made.
+struct Search {
+    best: Allocation,
+    floors: Vec<i128>,
+}
+
+impl Search {
+    /// Evaluates a multiplier and takes its choices as the best if they cover; tells the surplus of the choices.
+    fn visit(&mut self, problem: &Problem, multiplier: i128) -> i128 {
+        let evaluation = problem.evaluate(multiplier);
+        self.floors.push(floor(evaluation.dual));
+        let surplus = problem.surplus(&evaluation.choices);
+        if surplus >= 0 {
+            self.best = evaluation.choices;
+        }
+        surplus
+    }
+}
+
+/// Steps 2 to 4.
+fn search(problem: &Problem) -> Search {
+    let mut search = Search { best: problem.greatest.clone(), floors: Vec::new() };
+    if search.visit(problem, 0) >= 0 {
+        return search;
+    }
+    if search.visit(problem, GREATEST_MULTIPLIER) <= 0 {
+        return search;
+    }
+    let (mut low, mut high) = (0, GREATEST_MULTIPLIER);
+    while high - low > 1 {
+        let middle = (low + high) / 2;
+        match search.visit(problem, middle) {
+            0 => return search,
+            surplus if surplus > 0 => high = middle,
+            _ => low = middle,
+        }
+    }
+    search
+}
+
+// ---- the reply
+
+#[derive(Clone, Debug, PartialEq, Eq)]
+pub struct Reply {
+    pub evaluations: i128,
+    pub cost: i128,
+    pub gap: i128,
+    pub surplus: i128,
+    pub outputs: Vec<i128>,
+}
+
+pub fn solve(case: &Case) -> Result<Reply, Refused> {
+    let problem = problem(case)?;
+    let Search { best, floors } = search(&problem);
+    let greatest_floor = floors.iter().copied().fold(floors[0], i128::max);
+    Ok(Reply {
+        evaluations: floors.len() as i128,
+        cost: total_cost(&best),
+        gap: total_cost(&best) - greatest_floor,
+        surplus: problem.surplus(&best),
+        outputs: best.iter().map(|offer| offer.output).collect(),
+    })
+}
+
+fn encode_reply(reply: &Reply) -> Vec<u8> {
+    let mut bytes = Vec::new();
+    put(&mut bytes, reply.outputs.len() as i128, 2);
+    put(&mut bytes, reply.evaluations, 2);
+    put(&mut bytes, reply.cost, 8);
+    put(&mut bytes, reply.gap, 8);
+    put(&mut bytes, reply.surplus, 8);
+    for output in &reply.outputs {
+        put(&mut bytes, *output, 2);
+    }
+    bytes
+}
+
+/// Reads a reply of which the length is known to fit.
+pub fn decode_reply(bytes: &[u8]) -> Reply {
+    let count = field(bytes, 0, 2) as usize;
+    assert_eq!(bytes.len(), 28 + 2 * count, "length of the reply");
+    Reply {
+        evaluations: field(bytes, 2, 2),
+        cost: field(bytes, 4, 8),
+        gap: field(bytes, 12, 8),
+        surplus: field(bytes, 20, 8),
+        outputs: (0..count).map(|unit| field(bytes, 28 + 2 * unit, 2)).collect(),
+    }
+}
+
+/// Dispatches a file; the answer is the reply's length.
+pub fn dispatch(file: &[u8], reply: &mut [u8]) -> Result<usize, Refused> {
+    refuse_if(reply.len() < 92, 1)?;
+    let bytes = encode_reply(&solve(&decode(file)?)?);
+    reply[..bytes.len()].copy_from_slice(&bytes);
+    Ok(bytes.len())
+}
+
+#[derive(Clone, Copy, Debug, PartialEq, Eq)]
+pub struct Priced {
+    pub dual: i128,
+    pub covered: bool,
+}
+
+pub fn price(file: &[u8], multiplier: u32) -> Result<Priced, Refused> {
+    check_multiplier(multiplier)?;
+    let problem = problem(&decode(file)?)?;
+    let evaluation = problem.evaluate(i128::from(multiplier));
+    Ok(Priced { dual: evaluation.dual, covered: problem.surplus(&evaluation.choices) >= 0 })
+}
+
+fn check_multiplier(multiplier: u32) -> Result<(), Refused> {
+    refuse_if(i128::from(multiplier) > GREATEST_MULTIPLIER, 14)
+}
+
+// ---- the C forms
+
+fn number_of(answer: Result<usize, Refused>) -> u32 {
+    match answer {
+        Ok(length) => length as u32,
+        Err(Refused(number)) => number,
+    }
+}
+
+pub fn panel_dispatch(file: &[u8], reply: &mut [u8]) -> u32 {
+    number_of(dispatch(file, reply))
+}
+
+pub fn panel_pack(demand: u32, rows: &[u32], file: &mut [u8]) -> u32 {
+    number_of(pack(demand, rows, file))
+}
+
+pub fn panel_price(file: &[u8], multiplier: u32, answers: &mut [i64]) -> u32 {
+    let priced =
+        check_multiplier(multiplier).and_then(|()| refuse_if(answers.len() < 2, 1)).and_then(|()| price(file, multiplier));
+    number_of(priced.map(|priced| {
+        answers[0] = i64::try_from(priced.dual).expect("a dual value of 64 bits");
+        answers[1] = i64::from(priced.covered);
+        0
+    }))
+}
+
+pub fn panel_unpack(file: &[u8], rows: &mut [u32], answers: &mut [i64]) -> u32 {
+    let unpacked = refuse_if(answers.len() < 2, 1).and_then(|()| unpack(file, rows));
+    number_of(unpacked.map(|unpacked| {
+        answers[0] = unpacked.demand as i64;
+        answers[1] = unpacked.count as i64;
+        0
+    }))
+}

@@ -1,0 +1,51 @@
+//! How often each call was answered, and refused by each number.
+
+use crate::calls::NAMES;
+use crate::solver::Refused;
+
+/// The numbers that each call can give by document 01's table of refusals, calls in the order of their indices. In C a list
+/// of answers under two numbers gives pricing the number 1 too.
+const POSSIBLE: [&[usize]; 4] = [
+    &[1, 2, 3, 4, 5, 6, 7, 8, 9, 10, 11],
+    &[2, 3, 4, 5, 6, 7, 8, 9, 10, 11, 14],
+    &[5, 7, 8, 9, 10, 12, 13],
+    &[1, 2, 3, 4, 5, 6, 7, 8, 9, 10],
+];
+
+/// Counts by call and number; number 0 stands for an answer.
+#[derive(Default)]
+pub struct Tally([[u64; 15]; 4]);
+
+impl Tally {
+    /// Counts a call by its index, and its refusal or none.
+    pub fn count(&mut self, call: usize, refused: Option<Refused>) {
+        let number = refused.map_or(0, |refused| refused.0 as usize);
+        self.0[call][number] += 1;
+    }
+
+    pub fn total(&self) -> u64 {
+        self.0.iter().flatten().sum()
+    }
+
+    /// One line to a count, refusals only where they occurred.
+    pub fn lines(&self) -> Vec<String> {
+        let mut lines = Vec::new();
+        for (name, counts) in NAMES.iter().zip(&self.0) {
+            lines.push(format!("{} answered {}", name, counts[0]));
+            for (number, count) in counts.iter().enumerate().skip(1).filter(|(_, count)| **count > 0) {
+                lines.push(format!("{} refused {} {}", name, number, count));
+            }
+        }
+        lines
+    }
+
+    /// Asserts that every call was answered, and refused by every number that it can give.
+    pub fn assert_complete(&self) {
+        for ((name, counts), possible) in NAMES.iter().zip(&self.0).zip(POSSIBLE) {
+            assert!(counts[0] > 0, "{} was never answered", name);
+            for number in possible {
+                assert!(counts[*number] > 0, "{} was never refused with {}", name, number);
+            }
+        }
+    }
+}

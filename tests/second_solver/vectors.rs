@@ -1,0 +1,167 @@
+//! Cases with the numbers that the papers give for them: document 01's table, and vectors that see what the table does not.
+
+use crate::hex;
+use crate::solver::{self, Case, Priced, Refused, Reply, Unit};
+
+/// The file of case U5, as document 01 prints it.
+const U5: &str = "0001000100000005000c001e000000000000271003e800000002000a000000000000000000010004\
+                  0007";
+
+/// Unit U of document 01.
+pub fn u() -> Unit {
+    Unit {
+        c0: 0,
+        c1: 10_000,
+        c2: 1_000,
+        b: 0,
+        least: 2,
+        greatest: 10,
+        previous: 0,
+        up: 0,
+        down: 0,
+        mark: 0,
+        zones: vec![(4, 7)],
+    }
+}
+
+fn u_must_run() -> Unit {
+    Unit { mark: 1, ..u() }
+}
+
+/// A unit of the greatest costs that loses so much at 10,000 steps that no multiplier makes it give all.
+pub fn lossy(b: i128) -> Unit {
+    Unit { c1: 10_000_000, c2: 1_000, b, least: 9_000, greatest: 10_000, zones: vec![], ..u() }
+}
+
+/// The numbers of a reply that a paper states.
+#[derive(Default)]
+pub struct Stated {
+    evaluations: Option<i128>,
+    cost: Option<i128>,
+    gap: Option<i128>,
+    surplus: Option<i128>,
+    outputs: Vec<i128>,
+}
+
+pub enum Expected {
+    Replied(Stated),
+    Refused(u32),
+}
+
+pub struct Vector {
+    pub case: Case,
+    pub expected: Expected,
+}
+
+fn replied(demand: i128, units: Vec<Unit>, stated: Stated) -> Vector {
+    Vector { case: Case { demand, units }, expected: Expected::Replied(stated) }
+}
+
+fn refused(demand: i128, units: Vec<Unit>, number: u32) -> Vector {
+    Vector { case: Case { demand, units }, expected: Expected::Refused(number) }
+}
+
+fn whole(outputs: Vec<i128>, cost: i128, gap: i128, evaluations: i128, surplus: i128) -> Stated {
+    Stated { evaluations: Some(evaluations), cost: Some(cost), gap: Some(gap), surplus: Some(surplus), outputs }
+}
+
+/// Document 01's table.
+pub fn table() -> Vec<Vector> {
+    let ramped = |steps: i128| Unit { previous: 5, up: steps, down: steps, ..u_must_run() };
+    let with_lower_edge = |edge: i128| Unit { zones: vec![(edge, 7)], ..u() };
+    vec![
+        replied(5, vec![u()], whole(vec![7], 119_000, 42_000, 18, 200_000_000)),
+        replied(0, vec![u()], whole(vec![0], 0, 0, 1, 0)),
+        replied(0, vec![u_must_run()], whole(vec![2], 24_000, 0, 1, 200_000_000)),
+        replied(10, vec![u()], whole(vec![10], 200_000, 0, 2, 0)),
+        refused(11, vec![u()], 11),
+        refused(10, vec![Unit { b: 1, ..u() }], 11),
+        replied(5, vec![u(), u()], whole(vec![3, 3], 78_000, 15_000, 18, 100_000_000)),
+        replied(0, vec![ramped(1)], whole(vec![4], 56_000, 0, 1, 400_000_000)),
+        refused(0, vec![ramped(0)], 11),
+        refused(5, vec![with_lower_edge(2)], 9),
+        replied(5, vec![with_lower_edge(3)], Stated { outputs: vec![7], ..Stated::default() }),
+    ]
+}
+
+/// Vectors for wrong rules that the table does not see.
+pub fn further() -> Vec<Vector> {
+    vec![
+        // the least output on a tie
+        replied(
+            0,
+            vec![Unit { c1: 0, c2: 0, ..u() }],
+            Stated { evaluations: Some(1), surplus: Some(1_000_000_000), outputs: vec![10], ..Stated::default() },
+        ),
+        // a floor rounded down
+        replied(
+            5,
+            vec![Unit { b: 1, ..u() }],
+            Stated { gap: Some(41_999), surplus: Some(199_999_951), outputs: vec![7], ..Stated::default() },
+        ),
+        // only the last floor
+        replied(
+            1,
+            vec![u()],
+            Stated { evaluations: Some(18), cost: Some(24_000), gap: Some(12_000), outputs: vec![2], ..Stated::default() },
+        ),
+        // no stop at an equal net in step 4
+        replied(2, vec![u()], Stated { evaluations: Some(16), gap: Some(0), outputs: vec![2], ..Stated::default() }),
+        // the ramp applied to output 0
+        replied(0, vec![Unit { previous: 10, ..u() }], Stated { cost: Some(0), outputs: vec![0], ..Stated::default() }),
+        // 65,536 taken as covering: output 10,000 nets 7,200 steps with b 2,800 and 5,000 steps with b 5,000
+        covered_by_no_choice(7_200, 2_800),
+        covered_by_no_choice(5_000, 5_000),
+    ]
+}
+
+fn covered_by_no_choice(demand: i128, b: i128) -> Vector {
+    let stated = Stated { evaluations: Some(2), outputs: vec![10_000], ..Stated::default() };
+    replied(demand, vec![lossy(b)], stated)
+}
+
+/// Document 01's pricings of U with demand 5.
+const PRICINGS: [(u32, i128); 2] = [(21, 7_700_000_000), (65_536, -32_748_000_000_000)];
+
+/// The multipliers of document 01's pricings.
+pub fn priced_multipliers() -> Vec<u32> {
+    PRICINGS.iter().map(|(multiplier, _)| *multiplier).collect()
+}
+
+/// Asserts every number that the papers give; tells how many vectors there are.
+pub fn check() -> usize {
+    let u5 = solver::encode(&Case { demand: 5, units: vec![u()] });
+    assert_eq!(hex(&u5), U5, "the file of U5");
+    for (multiplier, dual) in PRICINGS {
+        let covered = true;
+        assert_eq!(solver::price(&u5, multiplier), Ok(Priced { dual, covered }), "U5 priced at {}", multiplier);
+    }
+    let vectors: Vec<Vector> = table().into_iter().chain(further()).collect();
+    for vector in &vectors {
+        check_vector(vector);
+    }
+    vectors.len() + PRICINGS.len()
+}
+
+fn check_vector(vector: &Vector) {
+    let file = solver::encode(&vector.case);
+    let answer = solver::decode(&file).and_then(|case| solver::solve(&case));
+    match (&vector.expected, &answer) {
+        (Expected::Refused(number), Err(Refused(refused))) => assert_eq!(number, refused, "{:?}", vector.case),
+        (Expected::Replied(stated), Ok(reply)) => check_stated(stated, reply),
+        _ => panic!("{:?} gives {:?}", vector.case, answer),
+    }
+}
+
+fn check_stated(stated: &Stated, reply: &Reply) {
+    assert_eq!(stated.outputs, reply.outputs);
+    let numbers = [
+        (stated.evaluations, reply.evaluations),
+        (stated.cost, reply.cost),
+        (stated.gap, reply.gap),
+        (stated.surplus, reply.surplus),
+    ];
+    for (stated, replied) in numbers {
+        assert_eq!(stated.unwrap_or(replied), replied);
+    }
+}

@@ -1,0 +1,174 @@
+//! Writes the runner's two files: `write STDIN STDOUT`. The format is in README.md.
+
+use second_solver::calls::{bytes_of, Call};
+use second_solver::generate::kinds;
+use second_solver::random::Random;
+use second_solver::solver::{self, Refused};
+use second_solver::tally::Tally;
+use second_solver::{hex, promise, vectors};
+
+const SEED: u64 = 1;
+const BUFFER_BYTES: usize = 1_600;
+const BUFFER_NUMBERS: usize = 640;
+const FILL_BYTE: u8 = 0xA5;
+const FILL_NUMBER: u32 = 0xA5A5_A5A5;
+const MOST_ALLOCATIONS: usize = 200_000;
+const MOST_OFFERS: usize = 400;
+
+/// What the runner reads and what it has to print.
+#[derive(Default)]
+struct Files {
+    records: Vec<Vec<u8>>,
+    lines: Vec<String>,
+    tally: Tally,
+    promises: usize,
+}
+
+fn main() {
+    let arguments: Vec<String> = std::env::args().skip(1).collect();
+    let (input_path, output_path) = match arguments.as_slice() {
+        [input_path, output_path] => (input_path, output_path),
+        _ => panic!("usage: write STDIN STDOUT"),
+    };
+    let vectors = vectors::check();
+    let files = make_files();
+    files.tally.assert_complete();
+    std::fs::write(input_path, input(&files.records)).expect(input_path);
+    std::fs::write(output_path, output(&files)).expect(output_path);
+    println!("{} vectors as the papers state them", vectors);
+    println!("{} calls, {} dispatches checked by brute force", files.tally.total(), files.promises);
+}
+
+fn make_files() -> Files {
+    let mut files = Files::default();
+    let mut random = Random::new(SEED);
+    let kinds = kinds();
+    let mut counts = Vec::new();
+    for (index, kind) in kinds.iter().enumerate() {
+        let calls: Vec<Call> = (0..kind.times).flat_map(|_| (kind.make)(&mut random)).collect();
+        for call in &calls {
+            files.add_call(index, call);
+        }
+        counts.push(calls.len());
+    }
+    for (index, kind) in kinds.iter().enumerate() {
+        files.records.push(record(0, index, 0, 0, kind.name.as_bytes()));
+        files.lines.push(format!("kind {} {}", kind.name, counts[index]));
+    }
+    files
+}
+
+fn input(records: &[Vec<u8>]) -> Vec<u8> {
+    let mut bytes = (records.len() as u32).to_be_bytes().to_vec();
+    bytes.extend(records.concat());
+    bytes
+}
+
+fn output(files: &Files) -> String {
+    files.lines.iter().chain(&files.tally.lines()).map(|line| format!("{}\n", line)).collect()
+}
+
+fn record(what: u16, kind: usize, number: u32, room: usize, content: &[u8]) -> Vec<u8> {
+    assert!(kind < 32 && content.len() <= 2_560);
+    let mut bytes = what.to_be_bytes().to_vec();
+    bytes.extend((kind as u16).to_be_bytes());
+    bytes.extend(number.to_be_bytes());
+    bytes.extend((room as u16).to_be_bytes());
+    bytes.extend((content.len() as u16).to_be_bytes());
+    bytes.extend(content);
+    bytes
+}
+
+impl Files {
+    fn add_call(&mut self, kind: usize, call: &Call) {
+        let (record, line, refused) = match call {
+            Call::Dispatch { file, room } => {
+                self.check_promise(file);
+                let (line, refused) = dispatch(file, *room);
+                (record(1, kind, 0, *room, file), line, refused)
+            }
+            Call::Price { file, multiplier } => {
+                let (line, refused) = price(file, *multiplier);
+                (record(2, kind, *multiplier, 0, file), line, refused)
+            }
+            Call::Pack { demand, rows, room } => {
+                let (line, refused) = pack(*demand, rows, *room);
+                (record(3, kind, *demand, *room, &bytes_of(rows)), line, refused)
+            }
+            Call::Unpack { file, room } => {
+                let (line, refused) = unpack(file, *room);
+                (record(4, kind, 0, *room, file), line, refused)
+            }
+        };
+        self.records.push(record);
+        self.lines.push(line);
+        self.tally.count(call.index(), refused);
+    }
+
+    fn check_promise(&mut self, file: &[u8]) {
+        let small = |case: &solver::Case| promise::is_small(case, MOST_ALLOCATIONS, MOST_OFFERS);
+        if solver::decode(file).map_or(false, |case| small(&case)) {
+            let mut reply = [0; BUFFER_BYTES];
+            let answer = solver::dispatch(file, &mut reply);
+            if let Err(message) = promise::check(file, answer.map(|length| &reply[..length])) {
+                panic!("{}", message);
+            }
+            self.promises += 1;
+        }
+    }
+}
+
+// ---- the line of each call, and the number of its refusal
+
+fn dispatch(file: &[u8], room: usize) -> (String, Option<Refused>) {
+    let mut buffer = [FILL_BYTE; BUFFER_BYTES];
+    let answer = solver::dispatch(file, &mut buffer[..room]);
+    line_of_bytes("dispatch", answer, &buffer)
+}
+
+fn pack(demand: u32, rows: &[u32], room: usize) -> (String, Option<Refused>) {
+    let mut buffer = [FILL_BYTE; BUFFER_BYTES];
+    let answer = solver::pack(demand, rows, &mut buffer[..room]);
+    line_of_bytes("pack", answer, &buffer)
+}
+
+fn line_of_bytes(call: &str, answer: Result<usize, Refused>, buffer: &[u8]) -> (String, Option<Refused>) {
+    match answer {
+        Ok(length) => {
+            let written = hex(&buffer[..length]);
+            (format!("{} {} {} {}", call, length, written, kept(&buffer[length..], FILL_BYTE)), None)
+        }
+        Err(refused) => (format!("{} refused {} {}", call, refused.0, kept(buffer, FILL_BYTE)), Some(refused)),
+    }
+}
+
+fn price(file: &[u8], multiplier: u32) -> (String, Option<Refused>) {
+    match solver::price(file, multiplier) {
+        Ok(priced) => {
+            let covered = if priced.covered { "covered" } else { "uncovered" };
+            (format!("price {} {}", priced.dual, covered), None)
+        }
+        Err(refused) => (format!("price refused {}", refused.0), Some(refused)),
+    }
+}
+
+fn unpack(file: &[u8], room: usize) -> (String, Option<Refused>) {
+    let mut buffer = [FILL_NUMBER; BUFFER_NUMBERS];
+    match solver::unpack(file, &mut buffer[..room]) {
+        Ok(unpacked) => {
+            let (rows, rest) = buffer.split_at(19 * unpacked.count);
+            let numbers: String = rows.iter().map(|number| format!("{} ", number)).collect();
+            let line = format!("unpack {} {} {}{}", unpacked.demand, unpacked.count, numbers, kept(rest, FILL_NUMBER));
+            (line, None)
+        }
+        Err(refused) => (format!("unpack refused {} {}", refused.0, kept(&buffer, FILL_NUMBER)), Some(refused)),
+    }
+}
+
+fn kept<T: PartialEq>(buffer: &[T], fill: T) -> &'static str {
+    if buffer.iter().all(|element| *element == fill) {
+        "kept"
+    } else {
+        "touched"
+    }
+}
