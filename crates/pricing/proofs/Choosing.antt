@@ -31,12 +31,12 @@ square o m = 100000 * o .c2 + m * o .b
 abbrev pub Turns : code-offer.Offer → ℕ → ℕ → ℕ → ℕ → Type 0
 Turns o m from to r = Turn (square o m) (100000 * o .c1) (100000000 * m) from to r
 
--- x is the priced cost of p but for the constant
-abbrev pub Height : code-offer.Offer → ℕ → ℕ → ℤ → Type 0
-Height o m p x = Is x (square o m * (p * p) + 100000 * o .c1 * p) (100000000 * m * p)
+-- x is the priced cost of p, in that form
+abbrev pub Priced : code-offer.Offer → ℕ → ℕ → ℤ → Type 0
+Priced o m p x = Is x (square o m * (p * p) + 100000 * o .c1 * p + 100000 * o .c0) (100000000 * m * p)
 
 module _ {o : code-offer.Offer} (s : Coefficients o) (m : ℕ) where
-  priced-at : (p : ℕ) → p ≤ 10000 → Is (pricedCost m (unitOf o) p) (square o m * (p * p) + 100000 * o .c1 * p + 100000 * o .c0) (100000000 * m * p)
+  priced-at : (p : ℕ) → p ≤ 10000 → Priced o m p (pricedCost m (unitOf o) p)
   unfolding cost
   priced-at p h = record { is = omega (arith, priced-is m (unitOf o) p, ap (λ (n : ℕ). m * n) (net-whole (sound s) {p = p} h)) }
 
@@ -51,11 +51,11 @@ module _ {o : code-offer.Offer} (s : Coefficients o) (m : ℕ) where
       by (yes e) = alike (λ p q. omega (arith, stands e, t .from, t .to)) (λ p i. omega (arith, stands e, t .from, t .to)) (single r)
       by (no n) = turn-chosen quadratic t
 
--- ---- the first k regions: their choice, and its height
+-- ---- the first k regions: their choice, and its priced cost
 
 pub record Choosing (o : code-offer.Offer) (m k best : ℕ) (least : ℤ) : Type 0 where
   pub chosen : Chosen (pricedCost m (unitOf o)) (Within o k) best
-  pub height : Height o m best least
+  pub priced : Priced o m best least
 
 module _ {o : code-offer.Offer} (s : Bounded o) (m : ℕ) where
   within : {k p : ℕ} → Within o k p ⊎ Between (low o k) (high o k) p → Within o (k + 1) p
@@ -72,33 +72,33 @@ module _ {o : code-offer.Offer} (s : Bounded o) (m : ℕ) where
   in-region : {k r : ℕ} → k < o .regions → Turns o m (low o k) (high o k) r → Chosen (pricedCost m (unitOf o)) (Between (low o k) (high o k)) r
   in-region {k} l t = best-in (s .coefficients) m (s .stands k l) (s .limit k l) t
 
-  pub choosing-starts : {r : ℕ} {x : ℤ} → 0 < o .regions → Turns o m (low o 0) (high o 0) r → Height o m r x → Choosing o m 1 r x
-  choosing-starts l t h = record { chosen = alike (λ p i. record { region = 0; below = omega arith; inside = i }) (λ p w. back p (split {k = 0} w)) (in-region l t); height = h }
+  pub choosing-starts : {r : ℕ} {x : ℤ} → 0 < o .regions → Turns o m (low o 0) (high o 0) r → Priced o m r x → Choosing o m 1 r x
+  choosing-starts l t h = record { chosen = alike (λ p i. record { region = 0; below = omega arith; inside = i }) (λ p w. back p (split {k = 0} w)) (in-region l t); priced = h }
     where
       back : (p : ℕ) → Within o 0 p ⊎ Between (low o 0) (high o 0) p → Between (low o 0) (high o 0) p
       back p (inl w) = absurd (omega (arith, w .below))
       back p (inr i) = i
 
-  module _ {k best p : ℕ} {least x : ℤ} (l : k < o .regions) (c : Choosing o m k best least) (t : Turns o m (low o k) (high o k) p) (h : Height o m p x) where
+  module _ {k best p : ℕ} {least x : ℤ} (l : k < o .regions) (c : Choosing o m k best least) (t : Turns o m (low o k) (high o k) p) (h : Priced o m p x) where
     apart : (i j : ℕ) → Within o k i → Between (low o k) (high o k) j → i < j
     apart i j w b = omega (arith, w .inside, s .apart (w .region) k (w .below) l)
 
-    priced-best : Is (pricedCost m (unitOf o) best) (square o m * (best * best) + 100000 * o .c1 * best + 100000 * o .c0) (100000000 * m * best)
+    priced-best : Priced o m best (pricedCost m (unitOf o) best)
     priced-best = let w = c .chosen .candidate in priced-at (s .coefficients) m best (omega (arith, w .inside, s .limit (w .region) (omega (arith, w .below))))
 
-    priced-next : Is (pricedCost m (unitOf o) p) (square o m * (p * p) + 100000 * o .c1 * p + 100000 * o .c0) (100000000 * m * p)
+    priced-next : Priced o m p (pricedCost m (unitOf o) p)
     priced-next = priced-at (s .coefficients) m p (omega (arith, t .to, s .limit k l))
 
     -- the next region's costs no more, or more
     pub choosing-next : leZ x least ≡ true → Choosing o m (k + 1) p x
     choosing-next e =
-        let n = when-le h (c .height) e in
-        record { chosen = alike (λ i. within) (λ i. split) (second (c .chosen) (in-region l t) apart (at-most priced-next priced-best (omega arith))); height = h }
+        let n = when-le h (c .priced) e in
+        record { chosen = alike (λ i. within) (λ i. split) (second (c .chosen) (in-region l t) apart (at-most priced-next priced-best (omega arith))); priced = h }
 
     pub choosing-same : leZ x least ≡ false → Choosing o m (k + 1) best least
     choosing-same e =
-        let n = when-gt h (c .height) e in
-        record { chosen = alike (λ i. within) (λ i. split) (first (c .chosen) (in-region l t) apart (under priced-best priced-next (omega arith))); height = c .height }
+        let n = when-gt h (c .priced) e in
+        record { chosen = alike (λ i. within) (λ i. split) (first (c .chosen) (in-region l t) apart (under priced-best priced-next (omega arith))); priced = c .priced }
 
   -- ---- all regions
 

@@ -8,8 +8,9 @@ use Rattle.rules.proofs.Integers.{up, dn}
 use Rattle.pricing.specs.declared.Offer as code-offer
 use Rattle.pricing.specs.Held.{Holds}
 
--- a × p² + l × p is in range
-pub record Heightable (a : ℕ) (l : ℤ) (p : ℕ) : Type 0 where
+-- a × p² + l × p + c is in range
+pub record Priceable (a : ℕ) (l : ℤ) (c p : ℕ) : Type 0 where
+  pub constant : c ≤ 1000000000000000
   pub square : a ≤ 1000000000
   pub above : up l ≤ 10000000000000
   pub below : dn l ≤ 10000000000000

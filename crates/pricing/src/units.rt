@@ -5,7 +5,7 @@ ghost use Rattle.rules.specs.Unit.{cost as Unit·cost, net as Unit·net};
 ghost use Rattle.rules.proofs.Integers.{up, dn, Is};
 ghost use Rattle.pricing.specs.Turn.{Turn};
 ghost use Rattle.pricing.specs.Held.{unitOf, Coefficients, Choosable};
-ghost use Rattle.pricing.specs.Choosing.{Heightable, Chooses};
+ghost use Rattle.pricing.specs.Choosing.{Priceable, Chooses};
 use crate::Offer;
 
 // Where a × p × p + l × p turns on 0..=10000: it falls until there and rises from there.
@@ -47,35 +47,36 @@ fn clamp(v: u16, low: u16, high: u16) -> u16
     if below < low { low } else { below }
 }
 
-// a × p × p + l × p.
-fn height(a: u64, l: i64, p: u16) -> i64
-    requires { ⌜ Heightable a l p ⌝ }
-    ensures { λ r. ⌜ ((s t : ℕ) → Is l s t → Is r (a * (p * p) + s * p) (t * p)) ⌝ }
+// a × p × p + l × p + c: the form of a unit's priced cost at output p.
+fn priced_cost(a: u64, l: i64, c: u64, p: u16) -> i64
+    requires { ⌜ Priceable a l c p ⌝ }
+    ensures { λ r. ⌜ ((s t : ℕ) → Is l s t → Is r (a * (p * p) + s * p + c) (t * p)) ⌝ }
 {
     let x = p as i64;
-    (a as i64 * x + l) * x
+    (a as i64 * x + l) * x + c as i64
 }
 
-// The choice of a unit. In each region the priced cost, up to a constant, is least where it turns; one division finds all of
-// these outputs. Of two the later is kept where it costs no more.
+// The choice of a unit. In each region the priced cost is least where it turns; one division finds all of these outputs. Of two
+// the later is kept where its priced cost is no more.
 pub fn choose(o: Offer, m: u64) -> u16
     requires { ⌜ Choosable o m ⌝ }
     ensures { λ r. ⌜ Chooses o m r ⌝ }
 {
     let a = 100000 * o.c2 + m * o.b;
     let l = (100000 * o.c1) as i64 - (100000000 * m) as i64;
+    let c = 100000 * o.c0;
     let v = vertex(a, l);
     let lows = o.lows;
     let highs = o.highs;
     let mut best = clamp(v, lows[0], highs[0]);
-    let mut least = height(a, l, best);
+    let mut least = priced_cost(a, l, c, best);
     let mut k = 1;
     while k < o.regions {
         let p = clamp(v, lows[k], highs[k]);
-        let h = height(a, l, p);
-        if h <= least {
+        let priced = priced_cost(a, l, c, p);
+        if priced <= least {
             best = p;
-            least = h;
+            least = priced;
         }
         k += 1;
     }

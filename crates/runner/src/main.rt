@@ -2,6 +2,7 @@
 // tests/second_solver/README.md has the format of the input; the expected output is what the second solver wrote.
 ghost use mathlib.Core.Path.{_≡_};
 ghost use lib.ListN.{length};
+
 mod calling;
 mod printing;
 

@@ -1,4 +1,4 @@
--- `pricing::units::choose` meets its contract. The loop keeps the choice in the regions that it has looked at, with its height.
+-- `pricing::units::choose` meets its contract. The loop keeps the choice in the regions that it has looked at, with its priced cost.
 use borrow.Author.Needs.{needs}
 use native.Mathlib.Nat.{mul-le-mul}
 use native.Mathlib.Omega.{arith}
@@ -11,16 +11,16 @@ use mir.Val.{toZ, ofZ}
 use mir.Facts.{toZ-ofZ}
 use Rattle.rules.proofs.Integers.{Is, is-minus, is-same, cast, fits, kept, up-is, dn-is}
 use Rattle.pricing.specs.Regions.{low, high}
-use Rattle.pricing.specs.Choosing.{Heightable}
-use Rattle.pricing.proofs.Choosing.{Turns, Height, Choosing, choosing-starts, choosing-next, choosing-same, choosing-ends}
+use Rattle.pricing.specs.Choosing.{Priceable}
+use Rattle.pricing.proofs.Choosing.{Turns, Priced, Choosing, choosing-starts, choosing-next, choosing-same, choosing-ends}
 use Rattle.pricing.proofs.units.choose.Statement.{statement}
 use Rattle.pricing.proofs.units.choose.Tie as tie
 
 abbrev Inv-loop : tie.InvT-loop
-Inv-loop o m a l v lows highs best₀ least₀ k₀ best least k = (k ≤ o .regions) × Choosing o m k best (toZ w64 least)
+Inv-loop o m a l c v lows highs best₀ least₀ k₀ best least k = (k ≤ o .regions) × Choosing o m k best (toZ w64 least)
 
 abbrev μ-loop : tie.MeasureT-loop
-μ-loop o m a l v lows highs best₀ least₀ k₀ best least k = o .regions - k
+μ-loop o m a l c v lows highs best₀ least₀ k₀ best least k = o .regions - k
 
 module _ (s : tie.Start Inv-loop μ-loop) where
   -- the slope, as it is computed and as it is read
@@ -46,15 +46,18 @@ module _ (s : tie.Start Inv-loop μ-loop) where
   a-small : 100000 * s .args .o .c2 + s .args .m * s .args .o .b ≤ 1000000000
   a-small = omega (arith, loss, s .pre .bounded .coefficients .c2)
 
-  heightable : {p : ℕ} → p ≤ 10000 → Heightable (100000 * s .args .o .c2 + s .args .m * s .args .o .b) (toZ w64 (ofZ w64 L)) p
-  heightable h = record { square = a-small; above = omega (arith, up-is l-read, c1-small); below = omega (arith, dn-is l-read, m-small); output = h }
+  c0-small : 100000 * s .args .o .c0 ≤ 100000000000000
+  c0-small = omega (arith, s .pre .bounded .coefficients .c0)
+
+  priceable : {p : ℕ} → p ≤ 10000 → Priceable (100000 * s .args .o .c2 + s .args .m * s .args .o .b) (toZ w64 (ofZ w64 L)) (100000 * s .args .o .c0) p
+  priceable h = record { constant = omega (arith, c0-small); square = a-small; above = omega (arith, up-is l-read, c1-small); below = omega (arith, dn-is l-read, m-small); output = h }
 
 -- where the first region turns, and the next one
-turns-first : (c : tie.After-clamp Inv-loop μ-loop) → let s = c .before .before .before .before .before .before .before in Turns (s .args .o) (s .args .m) (low (s .args .o) 0) (high (s .args .o) 0) (c .clamp .result)
-turns-first c = c .clamp .ensures _ _ _ (c .before .before .before .vertex .ensures _ _ (l-read (c .before .before .before .before .before .before .before)))
+turns-first : (c : tie.After-clamp Inv-loop μ-loop) → let s = c .before .before .before .before .before .before .before .before in Turns (s .args .o) (s .args .m) (low (s .args .o) 0) (high (s .args .o) 0) (c .clamp .result)
+turns-first c = c .clamp .ensures _ _ _ (c .before .before .before .vertex .ensures _ _ (l-read (c .before .before .before .before .before .before .before .before)))
 
-turns-next : (c : tie.After-clamp2 Inv-loop μ-loop) → let s = c .before .before .before .before .before .before .before .before .before .before .before .before in let k = c .before .before .before .loop .k in Turns (s .args .o) (s .args .m) (low (s .args .o) k) (high (s .args .o) k) (c .clamp2 .result)
-turns-next c = c .clamp2 .ensures _ _ _ (c .before .before .before .before .before .before .before .before .vertex .ensures _ _ (l-read (c .before .before .before .before .before .before .before .before .before .before .before .before)))
+turns-next : (c : tie.After-clamp2 Inv-loop μ-loop) → let s = c .before .before .before .before .before .before .before .before .before .before .before .before .before in let k = c .before .before .before .loop .k in Turns (s .args .o) (s .args .m) (low (s .args .o) k) (high (s .args .o) k) (c .clamp2 .result)
+turns-next c = c .clamp2 .ensures _ _ _ (c .before .before .before .before .before .before .before .before .vertex .ensures _ _ (l-read (c .before .before .before .before .before .before .before .before .before .before .before .before .before)))
 
 mul-a : tie.Need-mul-a Inv-loop μ-loop
 mul-a c = omega (arith, c .before .pre .bounded .coefficients .c2)
@@ -80,8 +83,11 @@ cast-l-2 c = omega (arith, m-small (c .before .before .before))
 sub-l : tie.Need-sub-l Inv-loop μ-loop
 sub-l c = let s = c .before .before .before in fits (l-is s) (omega (arith, c1-small s)) (omega (arith, m-small s))
 
+mul-c : tie.Need-mul-c Inv-loop μ-loop
+mul-c c = omega (arith, c0-small (c .before .before .before .before))
+
 vertex-requires : tie.Need-vertex-requires Inv-loop μ-loop
-vertex-requires c κs = let s = c .before .before .before in (omega (arith, a-small s), omega (arith, up-is (l-read s), c1-small s), omega (arith, dn-is (l-read s), m-small s))
+vertex-requires c κs = let s = c .before .before .before .before in (omega (arith, a-small s), omega (arith, up-is (l-read s), c1-small s), omega (arith, dn-is (l-read s), m-small s))
 
 array-read-clamp : tie.Need-array-read-clamp Inv-loop μ-loop
 array-read-clamp c = omega arith
@@ -90,15 +96,15 @@ array-read-clamp-2 : tie.Need-array-read-clamp-2 Inv-loop μ-loop
 array-read-clamp-2 c = omega arith
 
 clamp-requires : tie.Need-clamp-requires Inv-loop μ-loop
-clamp-requires c κs = let s = c .before .before .before .before .before .before in (s .pre .bounded .order 0 (s .pre .some), s .pre .bounded .limit 0 (s .pre .some))
+clamp-requires c κs = let s = c .before .before .before .before .before .before .before in (s .pre .bounded .order 0 (s .pre .some), s .pre .bounded .limit 0 (s .pre .some))
 
-height-requires : tie.Need-height-requires Inv-loop μ-loop
-height-requires c κs = heightable (c .before .before .before .before .before .before .before) (omega (arith, turns-first c .to, c .before .before .before .before .before .before .before .pre .bounded .limit 0 (c .before .before .before .before .before .before .before .pre .some)))
+priced-cost-requires : tie.Need-priced-cost-requires Inv-loop μ-loop
+priced-cost-requires c κs = priceable (c .before .before .before .before .before .before .before .before) (omega (arith, turns-first c .to, c .before .before .before .before .before .before .before .before .pre .bounded .limit 0 (c .before .before .before .before .before .before .before .before .pre .some)))
 
 loop-holds : tie.Need-loop-holds Inv-loop μ-loop
 loop-holds c =
-    let s = c .before .before .before .before .before .before .before .before in
-    (s .pre .some, choosing-starts (s .pre .bounded) (s .args .m) (s .pre .some) (turns-first (c .before)) (is-same (toZ-ofZ {w = w64} (search needs)) (c .height .ensures _ _ (l-read s))))
+    let s = c .before .before .before .before .before .before .before .before .before in
+    (s .pre .some, choosing-starts (s .pre .bounded) (s .args .m) (s .pre .some) (turns-first (c .before)) (is-same (toZ-ofZ {w = w64} (search needs)) (c .priced-cost .ensures _ _ (l-read s))))
 
 mul-clamp : tie.Need-mul-clamp Inv-loop μ-loop
 mul-clamp c = omega arith
@@ -113,10 +119,10 @@ array-read-clamp-4 : tie.Need-array-read-clamp-4 Inv-loop μ-loop
 array-read-clamp-4 c = omega arith
 
 clamp-requires-2 : tie.Need-clamp-requires-2 Inv-loop μ-loop
-clamp-requires-2 c κs = let s = c .before .before .before .before .before .before .before .before .before .before .before in (s .pre .bounded .order _ (c .if1 .taken), s .pre .bounded .limit _ (c .if1 .taken))
+clamp-requires-2 c κs = let s = c .before .before .before .before .before .before .before .before .before .before .before .before in (s .pre .bounded .order _ (c .if1 .taken), s .pre .bounded .limit _ (c .if1 .taken))
 
-height-requires-2 : tie.Need-height-requires-2 Inv-loop μ-loop
-height-requires-2 c κs = heightable (c .before .before .before .before .before .before .before .before .before .before .before .before) (omega (arith, turns-next c .to, c .before .before .before .before .before .before .before .before .before .before .before .before .pre .bounded .limit _ (c .before .if1 .taken)))
+priced-cost-requires-2 : tie.Need-priced-cost-requires-2 Inv-loop μ-loop
+priced-cost-requires-2 c κs = priceable (c .before .before .before .before .before .before .before .before .before .before .before .before .before) (omega (arith, turns-next c .to, c .before .before .before .before .before .before .before .before .before .before .before .before .before .pre .bounded .limit _ (c .before .if1 .taken)))
 
 add-k : tie.Need-add-k Inv-loop μ-loop
 add-k c = omega arith
@@ -126,11 +132,11 @@ loop-less c = omega arith
 
 loop-again : tie.Need-loop-again Inv-loop μ-loop
 loop-again c =
-    let s = c .before .before .before .before .before .before .before .before .before .before .before .before .before .before in
+    let s = c .before .before .before .before .before .before .before .before .before .before .before .before .before .before .before in
     let h = c .before in
     let l = h .before .before .before .before .loop in
-    let next : Height (s .args .o) (s .args .m) (h .before .clamp2 .result) (toZ w64 (ofZ w64 (h .height2 .result))) =
-    is-same (toZ-ofZ {w = w64} (search needs)) (h .height2 .ensures _ _ (l-read s)) in
+    let next : Priced (s .args .o) (s .args .m) (h .before .clamp2 .result) (toZ w64 (ofZ w64 (h .priced-cost2 .result))) =
+    is-same (toZ-ofZ {w = w64} (search needs)) (h .priced-cost2 .ensures _ _ (l-read s)) in
     let turns = turns-next (h .before) in
     let below = h .before .before .if1 .taken in (
       omega arith,
@@ -142,7 +148,7 @@ loop-again c =
 
 returns : tie.Need-returns Inv-loop μ-loop
 returns c =
-    let s = c .before .before .before .before .before .before .before .before .before .before .before in
+    let s = c .before .before .before .before .before .before .before .before .before .before .before .before in
     let l = c .before .before .loop in
     let all : l .k ≡ s .args .o .regions = omega arith in
     choosing-ends (s .pre .bounded) (s .args .m) (subst (λ (n : ℕ). Choosing (s .args .o) (s .args .m) n (l .best) (toZ w64 (l .least))) all (l .inv .1))
@@ -161,18 +167,19 @@ choose-spec =
     mul-l-2
     cast-l-2
     sub-l
+    mul-c
     vertex-requires
     array-read-clamp
     array-read-clamp-2
     clamp-requires
-    height-requires
+    priced-cost-requires
     loop-holds
     mul-clamp
     array-read-clamp-3
     mul-clamp-2
     array-read-clamp-4
     clamp-requires-2
-    height-requires-2
+    priced-cost-requires-2
     add-k
     loop-less
     loop-again

@@ -1,4 +1,4 @@
--- `pricing::units::height` meets its contract: each step is a difference of naturals that fits.
+-- `pricing::units::priced_cost` meets its contract: each step is a difference of naturals that fits.
 use native.Mathlib.Nat.{mul-le-mul}
 use native.Mathlib.Omega.{arith}
 use mathlib.Core.Path.{ap}
@@ -7,8 +7,8 @@ use lib.IntN.{ℤ, _+ℤ_, _*ℤ_}
 use mir.Syntax.{w64}
 use mir.Val.{toZ, ofZ}
 use Rattle.rules.proofs.Integers.{Is, up, dn, back, cast, is-add, is-product, fits, kept}
-use Rattle.pricing.proofs.units.height.Statement.{statement}
-use Rattle.pricing.proofs.units.height.Tie as tie
+use Rattle.pricing.proofs.units.priced_cost.Statement.{statement}
+use Rattle.pricing.proofs.units.priced_cost.Tie as tie
 
 module _ (c : tie.Start) where
   abbrev a : ℕ
@@ -36,7 +36,7 @@ module _ (c : tie.Start) where
   below : dn l * p ≤ 100000000000000000
   below = mul-le-mul (c .pre .below) (c .pre .output)
 
-  -- a × p, then a × p + l, then (a × p + l) × p: as computed and as read
+  -- a × p, a × p + l, (a × p + l) × p and (a × p + l) × p + c: as computed and as read
   abbrev First : ℤ
   First = toZ w64 a *ℤ toZ w64 p
 
@@ -61,6 +61,12 @@ module _ (c : tie.Start) where
   third-is : Is Third (a * p * p + up l * p) (dn l * p)
   third-is = record { is = omega (arith, is-product second-read x-is) }
 
+  third-read : Is (toZ w64 (ofZ w64 Third)) (a * p * p + up l * p) (dn l * p)
+  third-read = kept third-is (omega (arith, slope, above)) (omega (arith, below))
+
+  fourth-is : Is (toZ w64 (ofZ w64 Third) +ℤ toZ w64 (c .args .c)) (a * p * p + up l * p + c .args .c) (dn l * p + 0)
+  fourth-is = is-add third-read (cast (c .args .c) (omega (arith, c .pre .constant)))
+
 cast-x : tie.Need-cast-x
 cast-x c = omega (arith, c .pre .output)
 
@@ -76,9 +82,15 @@ add-result c = fits (second-is c) (omega (arith, squared c, c .pre .above)) (ome
 mul-result-2 : tie.Need-mul-result-2
 mul-result-2 c = fits (third-is c) (omega (arith, slope c, above c)) (omega (arith, below c))
 
+cast-result-2 : tie.Need-cast-result-2
+cast-result-2 c = omega (arith, c .pre .constant)
+
+add-result-2 : tie.Need-add-result-2
+add-result-2 c = fits (fourth-is c) (omega (arith, slope c, above c, c .pre .constant)) (omega (arith, below c))
+
 returns : tie.Need-returns
 returns c = λ s t k.
-    record { is = omega (arith, kept (third-is c) (omega (arith, slope c, above c)) (omega (arith, below c)), ap (λ (n : ℕ). n * c .args .p) (k .is)) }
+    record { is = omega (arith, kept (fourth-is c) (omega (arith, slope c, above c, c .pre .constant)) (omega (arith, below c)), ap (λ (n : ℕ). n * c .args .p) (k .is)) }
 
-pub height-spec : {M : Type 1} → statement M
-height-spec = tie.close (tie.spec cast-x cast-result mul-result add-result mul-result-2 returns)
+pub priced-cost-spec : {M : Type 1} → statement M
+priced-cost-spec = tie.close (tie.spec cast-x cast-result mul-result add-result mul-result-2 cast-result-2 add-result-2 returns)
