@@ -13,7 +13,7 @@ use Rattle.rules.specs.declared.Refusal.the-variants.{ZoneCountInvalid}
 use Rattle.rules.specs.declared.Verdict.{Verdict}
 use Rattle.rules.specs.declared.Verdict.the-variants.{Accepted, Refused}
 use Rattle.rules.proofs.Lists.{accepts}
-use Rattle.casefile.specs.Held.{BodyFits}
+use Rattle.casefile.specs.Required.{BodyFits}
 use Rattle.casefile.proofs.Head.{or-true}
 
 module _ (s : List ℕ) where

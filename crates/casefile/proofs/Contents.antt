@@ -18,7 +18,7 @@ use Rattle.rules.specs.Refusal.{_refuses_, start, legalSize, entryFits, content
 use Rattle.rules.specs.declared.Refusal.the-variants.{ContentsInvalid}
 use Rattle.rules.specs.declared.Verdict.the-variants.{Accepted}
 use Rattle.rules.proofs.Lists.{each-every, all-every, accepts}
-use Rattle.casefile.specs.Held.{BodyInside}
+use Rattle.casefile.specs.Required.{BodyInside}
 use Rattle.rules.proofs.Each.{rest-ends, rest-more}
 
 -- ---- legal lengths

@@ -8,7 +8,7 @@ use Rattle.rules.specs.Refusal.{inOrder, headVerdict, contentsVerdict, unitVerd
 use Rattle.rules.specs.declared.Refusal.{Refusal}
 use Rattle.rules.specs.declared.Verdict.the-variants.{Accepted, Refused}
 use Rattle.rules.proofs.Lists.{accepts, in-order-accepted, each-every}
-use Rattle.casefile.specs.Held.{BodyInside, BodyFits, HeadRead}
+use Rattle.casefile.specs.Required.{BodyInside, BodyFits, HeadRead}
 use Rattle.casefile.proofs.Head.{head-read}
 use Rattle.casefile.proofs.Body.{verdictAt, body-fits, body-accepted}
 use Rattle.casefile.proofs.Contents.{body-inside}

@@ -11,7 +11,7 @@ use Rattle.rules.specs.Refusal.{headVerdict}
 use Rattle.rules.specs.declared.Refusal.the-variants.{FileTooShort, EditionUnknown, CountOutOfRange, DemandOutOfRange}
 use Rattle.rules.specs.declared.Verdict.the-variants.{Accepted, Refused}
 use Rattle.rules.proofs.Lists.{accepts}
-use Rattle.casefile.specs.Held.{HeadRead}
+use Rattle.casefile.specs.Required.{HeadRead}
 
 -- one of two tests holds
 pub or-true : (a b : Bool) → (a ≡ false → b ≡ true) → (a || b) ≡ true

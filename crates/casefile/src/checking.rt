@@ -7,7 +7,7 @@ ghost use lib.ListN.{length};
 ghost use Rattle.rules.specs.Lists.{each, all};
 ghost use Rattle.rules.specs.Layout.{body};
 ghost use Rattle.rules.specs.Refusal.{inOrder, headVerdict, start, legalSize, entryFits, contentsVerdict, bodyVerdict, fileVerdict};
-ghost use Rattle.casefile.specs.Held.{HeadRead, BodyInside};
+ghost use Rattle.casefile.specs.Required.{HeadRead, BodyInside};
 use crate::reading::read_body;
 use rules::Refusal;
 use rules::Verdict;

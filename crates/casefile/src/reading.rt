@@ -6,7 +6,7 @@ ghost use Rattle.fields.specs.Field.{field};
 ghost use Rattle.rules.specs.Lists.{each};
 ghost use Rattle.rules.specs.Layout.{edgeOfBody, unitOfBody, bodyLength};
 ghost use Rattle.unit.specs.Held.{unitHeld};
-ghost use Rattle.casefile.specs.Held.{BodyFits};
+ghost use Rattle.casefile.specs.Required.{BodyFits};
 use unit::Unit;
 
 // The 16 bits of a body from `at` on.

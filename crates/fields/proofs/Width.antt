@@ -68,9 +68,6 @@ written-read s at w h k =
     let e : bytes w (field s at w) ≡ take w (drop at s) = bytes-number w (take w (drop at s)) l (bytes-part s at w k) in
     rw (e, ← drop-drop w at s, take-append-drop w (drop at s)) (take-append-drop at s)
 
-pub length-written : (s : List ℕ) (at w n : ℕ) → at + w ≤ length s → length (written s at w n) ≡ length s
-length-written s at w n h = simp (length-append, length-take-le at s (omega arith), length-bytes, length-drop) (omega arith)
-
 -- ---- the two loops: one byte more is read, one byte more is written
 
 more-read : (n : ℕ) (s : List ℕ) (at k : ℕ) → at < length s → numberAfter n (take (suc k) (drop at s)) ≡ numberAfter (n * 256 + getD s at 0) (take k (drop (suc at) s))

@@ -16,7 +16,7 @@ use Rattle.rules.specs.declared.Verdict.{Verdict}
 use Rattle.rules.specs.declared.Verdict.the-variants.{Accepted, Refused}
 use Rattle.rules.specs.declared.Packed.{Packed}
 use Rattle.rules.proofs.Lists.{or-false, length-each, in-order-accepted, each-every}
-use Rattle.packing.specs.Held.{RowsSound}
+use Rattle.packing.specs.Required.{RowsSound}
 use Rattle.packing.proofs.Lengths.{length-rows-file}
 
 module _ {A B : Type 0} (g : A → B) where

@@ -15,7 +15,7 @@ use Rattle.rules.proofs.Sound.{sound}
 use Rattle.rules.proofs.Rows.{length-rowAt, row-eight}
 use Rattle.rules.proofs.Body.{Packable}
 use Rattle.rules.proofs.RoundTrip.{length-file}
-use Rattle.packing.specs.Held.{RowsSound}
+use Rattle.packing.specs.Required.{RowsSound}
 
 pub row-zones : (rows : List ℕ) (i : ℕ) → unitInRow rows i .zoneCount ≡ getD rows (19 * i + 10) 0
 unfolding unitOfRow

@@ -16,7 +16,7 @@ use Rattle.rules.proofs.Sound.{Sound, edge-small}
 use Rattle.rules.proofs.Pieces.{length-each-bytes}
 use Rattle.rules.proofs.Body.{length-body}
 use Rattle.rules.proofs.RoundTrip.{length-contents}
-use Rattle.packing.specs.Held.{RowsSound, WordsFit}
+use Rattle.packing.specs.Required.{RowsSound, WordsFit}
 use Rattle.rules.proofs.Front.{Front, lent, givenBack, front-none, front-made, front-field, front-tail, front-over}
 use Rattle.packing.proofs.Lengths.{sizeOf, total, contents-more, bodies-more, packable}
 

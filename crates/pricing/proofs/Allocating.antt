@@ -11,10 +11,20 @@ use Rattle.rules.specs.Unit.{cost, net, totalCost, totalNet, Offer, Problem, un
 use Rattle.rules.proofs.Quantities.{cost-range, net-range}
 use Rattle.pricing.specs.declared.Offer as code-offer
 use Rattle.pricing.specs.declared.Allocation as code-allocation
-use Rattle.pricing.specs.Held.{Coefficients, Holds}
-use Rattle.pricing.specs.Totals.{nothingOffered, nothing, added, HoldsOutputs, Sized}
+use Rattle.pricing.specs.Held.{unitOf, Coefficients, Holds}
+use Rattle.pricing.specs.Totals.{nothingOffered, HoldsOutputs, Sized}
 use Rattle.pricing.proofs.Range.{sound}
 use Rattle.pricing.proofs.Held.{cost-held, net-held}
+
+-- ---- nothing allocated, and one unit more
+
+-- no output of any unit
+abbrev pub nothing : code-allocation.Allocation
+nothing = record { outputs = replicate 32 0; cost = 0; net = 0 }
+
+-- with output p of unit i, which is o
+abbrev pub added : code-allocation.Allocation → ℕ → code-offer.Offer → ℕ → code-allocation.Allocation
+added a i o p = record { outputs = set (a .outputs) i p; cost = a .cost + cost (unitOf o) p; net = a .net + net (unitOf o) p }
 
 -- ---- numbers in range
 

@@ -20,7 +20,7 @@ use Rattle.pricing.specs.declared.Offer as code-offer
 use Rattle.pricing.specs.declared.Window as code-window
 use Rattle.pricing.specs.Regions.{Between, Within, high}
 use Rattle.pricing.specs.Held.{Bounded}
-use Rattle.pricing.specs.Dividing.{Windowed, Regions}
+use Rattle.pricing.specs.Offering.{Windowed, Regions}
 use Rattle.pricing.proofs.Pushing.{Pushable, Pushed, pushed, push, at-most-one, one-true}
 use Rattle.pricing.proofs.Zones.{outside, zone-parts, before-zone, after-zone, within-zone, next-zone}
 

@@ -11,8 +11,8 @@ use Rattle.rules.proofs.Totals.{dual-is}
 use Rattle.pricing.specs.declared.Problem as code-problem
 use Rattle.pricing.specs.declared.Allocation as code-allocation
 use Rattle.pricing.specs.Choosing.{Chooses}
-use Rattle.pricing.specs.Totals.{offerAt, Evaluable, HoldsProblem, nothing, added, HoldsOutputs, Sized, Evaluates}
-use Rattle.pricing.proofs.Allocating.{Allocating, sized-starts, sized-more, allocating-starts, allocating-more, allocating-ends}
+use Rattle.pricing.specs.Totals.{offerAt, Evaluable, HoldsProblem, HoldsOutputs, Sized, Evaluates}
+use Rattle.pricing.proofs.Allocating.{nothing, added, Allocating, sized-starts, sized-more, allocating-starts, allocating-more, allocating-ends}
 
 pub record Evaluating (q : code-problem.Problem) (m : ℕ) (a : code-allocation.Allocation) (i : ℕ) : Type 0 where
   pub within : i ≤ q .count

@@ -7,8 +7,8 @@ use Rattle.rules.specs.Unit.{Offer, Problem}
 use Rattle.rules.specs.Bisection.{greatestOutputs}
 use Rattle.pricing.specs.declared.Problem as code-problem
 use Rattle.pricing.specs.declared.Allocation as code-allocation
-use Rattle.pricing.specs.Totals.{offerAt, BoundedProblem, HoldsProblem, nothing, added, Sized, GreatestOutput, GreatestOutputs}
-use Rattle.pricing.proofs.Allocating.{Allocating, sized-starts, sized-more, allocating-starts, allocating-more, allocating-ends}
+use Rattle.pricing.specs.Totals.{offerAt, BoundedProblem, HoldsProblem, Sized, GreatestOutput, GreatestOutputs}
+use Rattle.pricing.proofs.Allocating.{nothing, added, Allocating, sized-starts, sized-more, allocating-starts, allocating-more, allocating-ends}
 
 abbrev last : Offer → ℕ
 last f = greatest (f .outputs)

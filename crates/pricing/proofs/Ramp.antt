@@ -8,7 +8,7 @@ use lib.Dec.{leb}
 use borrow.Author.Tests.{lt-ltb, le-ltb, leb-true, le-leb}
 use Rattle.rules.specs.Layout.{Unit}
 use Rattle.rules.proofs.Lists.{and-true}
-use Rattle.pricing.specs.Dividing.{Windowed}
+use Rattle.pricing.specs.Offering.{Windowed}
 
 module _ {u : Unit} where
   pub no-window : u .previous ≡ 0 → Windowed u (record { from = 0; to = u .greatest })

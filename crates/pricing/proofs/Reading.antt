@@ -15,7 +15,7 @@ use Rattle.rules.proofs.Lists.{accepts, length-each, getD-each}
 use Rattle.casefile.proofs.File.{accepted-head}
 use Rattle.pricing.specs.declared.Offer as code-offer
 use Rattle.pricing.specs.Totals.{noOffer, nothingOffered}
-use Rattle.pricing.specs.Dividing.{Regions}
+use Rattle.pricing.specs.Offering.{Regions}
 use Rattle.pricing.specs.Priced.{ProblemIn}
 
 -- the units below i are read

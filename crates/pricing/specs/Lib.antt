@@ -3,5 +3,5 @@ pub mod Regions
 pub mod Held
 pub mod Choosing
 pub mod Totals
-pub mod Dividing
+pub mod Offering
 pub mod Priced

@@ -1,10 +1,10 @@
 -- All units together: the problem that a struct stands for, and the allocation and the evaluation that a struct holds.
-use Prim.Native.Nat.{ℕ, _+_, _*_, _≤_, _<_}
+use Prim.Native.Nat.{ℕ, _*_, _≤_, _<_}
 use mathlib.Core.Path.{_≡_}
 use mathlib.Core.Bool.{Bool, true}
 use mathlib.Core.List.{List, []}
 use lib.Dec.{ltb}
-use lib.ListN.{length, getD, take, set, replicate}
+use lib.ListN.{length, getD, take}
 use Rattle.rules.specs.Lists.{all, greatest}
 use Rattle.rules.specs.Unit.{cost, net, totalCost, totalNet, Offer, Problem, unitsOf}
 use Rattle.rules.specs.Choice.{choices, dualValue}
@@ -49,14 +49,6 @@ pub record HoldsProblem (q : code-problem.Problem) (p : Problem) : Type 0 where
   pub demand : p .demand ≡ q .demand
   pub count : length (p .offers) ≡ q .count
   pub offers : (i : ℕ) → i < q .count → Holds (offerAt q i) (getD (p .offers) i nothingOffered)
-
--- no output of any unit
-abbrev pub nothing : code-allocation.Allocation
-nothing = record { outputs = replicate 32 0; cost = 0; net = 0 }
-
--- with output p of unit i, which is o
-abbrev pub added : code-allocation.Allocation → ℕ → code-offer.Offer → ℕ → code-allocation.Allocation
-added a i o p = record { outputs = set (a .outputs) i p; cost = a .cost + cost (unitOf o) p; net = a .net + net (unitOf o) p }
 
 -- outputs ps of the units of p, with their cost and net
 pub record HoldsOutputs (p : Problem) (ps : List ℕ) (a : code-allocation.Allocation) : Type 0 where

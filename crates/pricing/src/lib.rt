@@ -12,8 +12,8 @@ pub use totals::floor_of;
 pub use totals::greatest_outputs;
 pub use totals::solvable;
 
-// A unit's coefficients, and its permitted outputs as intervals that ascend: 0..0 if it may stand, then those that zones and
-// ramp window leave.
+// A unit's coefficients, and its permitted outputs as `regions` intervals that ascend: 0..0 if it may stand, then those that
+// zones and ramp window leave. What stands past these means nothing.
 pub struct Offer {
     pub c0: u64,
     pub c1: u64,

@@ -1,4 +1,4 @@
-// One unit at one multiplier: where its priced cost turns, and its choice among its regions.
+// One unit: where its priced cost at a multiplier turns, its choice among its regions, and the cost and net of an output.
 ghost use mathlib.Core.Path.{_≡_};
 ghost use Prim.Native.Nat.{ℕ, _+_, _*_, _≤_, _<_};
 ghost use Rattle.rules.specs.Unit.{cost as Unit·cost, net as Unit·net};

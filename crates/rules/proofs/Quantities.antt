@@ -1,4 +1,4 @@
--- The range of every quantity of a sound unit at an output up to its greatest, and that net grows with the output. This file alone looks at what cost and net are made of.
+-- The range of every quantity of a sound unit at an output up to its greatest, and that net grows with the output. In this crate this file alone looks at what cost and net are made of.
 use mathlib.Core.Path.{_≡_}
 use Prim.Native.Nat.{ℕ, zero, suc, _+_, _*_, _-_, _≤_}
 use native.Mathlib.Nat.{add-zero, le-refl, mul-le-mul, mul-le-mul-right}
@@ -35,10 +35,6 @@ module _ {u : Unit} (s : Sound u) {p : ℕ} (h : p ≤ 10000) where
 
   pub net-range : net u p ≤ 1000000000000
   net-range = omega (arith, net-whole)
-
-  -- "The multiplier m is a whole number, 0 to 65,536": priced cost is from −65,536,000,000,000,000 to 20,100,000,000,000,000
-  pub priced-range : {m : ℕ} → m ≤ 65536 → m * net u p ≤ 65536000000000000
-  priced-range k = mul-le-mul k net-range
 
 pub priced-is : (m : ℕ) (u : Unit) (p : ℕ) → Is (pricedCost m u p) (100000 * cost u p) (m * net u p)
 unfolding pricedCost

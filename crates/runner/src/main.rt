@@ -89,7 +89,7 @@ fn run_record(
     let argument = fields::read_u32(&head, 4);
     let room = fields::read_u16(&head, 8) as usize;
     let length = fields::read_u16(&head, 10) as usize;
-    if length > given.len() {
+    if call > 4 || length > given.len() {
         return false;
     }
     let read = io::read_full(STDIN_FILENO, &mut given[..length]);

@@ -2,12 +2,12 @@
 use Prim.Native.Nat.{ℕ, _+_, _<_}
 use native.Mathlib.Decide.{decLt, ℕ-discrete}
 use native.Mathlib.Omega.{arith}
-use mathlib.Core.Path.{_≡_, refl, ap, sym, _∙_}
+use mathlib.Core.Path.{_≡_, ap, sym, _∙_}
 use mathlib.Core.Logic.{_≢_}
 use mathlib.Core.Bool.{Bool, cond}
 use mathlib.Core.List.{List}
 use lib.Dec.{ltb}
-use lib.ListN.{getD, set, replicate, length-set}
+use lib.ListN.{getD, set, length-set}
 use lib.Seq.{ext-getD, getD-set-same, getD-set-other}
 use borrow.Author.Tests.{lt-ltb, le-ltb}
 use Rattle.rules.specs.Lists.{each}
@@ -18,9 +18,6 @@ abbrev pub first : (ℕ → ℕ) → ℕ → List ℕ
 first f k = each 8 (λ j. cond (ltb j k) (f j) 0)
 
 module _ (f : ℕ → ℕ) where
-  pub first-starts : first f 0 ≡ replicate 8 0
-  first-starts = refl
-
   below-more : (k j : ℕ) → j ≢ k → cond (ltb j k) (f j) 0 ≡ cond (ltb j (k + 1)) (f j) 0
   below-more k j n = ap (λ (b : Bool). cond b (f j) 0) (by (decLt j k))
     where

@@ -5,7 +5,8 @@ use lib.IntN.{_-ℤ_}
 use mir.Syntax.{w64}
 use mir.Val.{toZ}
 use Rattle.rules.proofs.Integers.{Is, is-minus, cast, fits, kept}
-use Rattle.pricing.specs.Totals.{offerAt, added, Sized}
+use Rattle.pricing.specs.Totals.{offerAt, Sized}
+use Rattle.pricing.proofs.Allocating.{added}
 use Rattle.pricing.proofs.Evaluating.{Evaluating, Sums, sums, evaluating-starts, more-sized, evaluating-more, evaluating-ends}
 use Rattle.pricing.proofs.totals.evaluate.Statement.{statement}
 use Rattle.pricing.proofs.totals.evaluate.Tie as tie

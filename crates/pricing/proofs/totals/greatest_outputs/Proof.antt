@@ -1,7 +1,8 @@
 -- `pricing::totals::greatest_outputs` meets its contract. The loop keeps what `Raising` says.
 use native.Mathlib.Omega.{arith}
 use Prim.Native.Nat.{_+_, _<_, _-_}
-use Rattle.pricing.specs.Totals.{offerAt, added, Sized}
+use Rattle.pricing.specs.Totals.{offerAt, Sized}
+use Rattle.pricing.proofs.Allocating.{added}
 use Rattle.pricing.proofs.Greatest.{Raising, raising-starts, more-sized, raising-more, raising-ends}
 use Rattle.pricing.proofs.totals.greatest_outputs.Statement.{statement}
 use Rattle.pricing.proofs.totals.greatest_outputs.Tie as tie
