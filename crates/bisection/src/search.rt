@@ -92,19 +92,13 @@ pub fn search(q: Problem, first: Allocation) -> Found
             evaluations: 2,
         };
     }
+    let covering = Found {
+        best: choices,
+        floor,
+        evaluations: 2,
+    };
     if net == target {
-        return Found {
-            best: choices,
-            floor,
-            evaluations: 2,
-        };
+        return covering;
     }
-    halve(
-        q,
-        Found {
-            best: choices,
-            floor,
-            evaluations: 2,
-        },
-    )
+    halve(q, covering)
 }
