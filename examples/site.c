@@ -1,5 +1,6 @@
 /* From a site's numbers to a dispatch: a harbour town with four sets and a demand of 23.5 MW. Packs the planner's rows into a
- * case file, dispatches it, and prints who gives how much, what it costs and how far from the best that can be at most. */
+ * case file, dispatches it, and prints who gives how much, what it costs and how far from the best that can be at most. With the
+ * name of a file as its argument it also writes the case file there. */
 #include "shahfureel.h"
 
 #include <inttypes.h>
@@ -40,19 +41,32 @@ static void print_outputs(const uint8_t *reply)
     }
 }
 
+static int written(const char *name, const uint8_t *file, uint32_t length)
+{
+    FILE *out = fopen(name, "wb");
+    if (out == NULL)
+        return 0;
+    size_t put = fwrite(file, 1, length, out);
+    return fclose(out) == 0 && put == length;
+}
+
 static int refused(const char *call, uint32_t number)
 {
     fprintf(stderr, "%s refused with %" PRIu32 ": see enum shahfureel_refusal in shahfureel.h\n", call, number);
     return 1;
 }
 
-int main(void)
+int main(int arguments, char **argument)
 {
     uint8_t file[SHAHFUREEL_FILE_BYTES_MAX];
     uint8_t reply[SHAHFUREEL_REPLY_BYTES];
     uint32_t length = shahfureel_pack(235, SETS, sizeof SETS / sizeof SETS[0], file, sizeof file);
     if (length < SHAHFUREEL_LENGTH_MIN)
         return refused("packing", length);
+    if (arguments > 1 && !written(argument[1], file, length)) {
+        perror(argument[1]);
+        return 1;
+    }
     uint32_t answer = shahfureel_dispatch(file, length, reply, sizeof reply);
     if (answer < SHAHFUREEL_LENGTH_MIN)
         return refused("dispatch", answer);

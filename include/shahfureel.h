@@ -54,7 +54,8 @@ enum shahfureel_refusal {
     SHAHFUREEL_MULTIPLIER_OUT_OF_RANGE = 14  /* the multiplier is above 65,536 */
 };
 
-/* ---- calls. A result is documented field by field in README.md, "The formats". */
+/* ---- calls. README.md, "The formats", has the case file, a row and the reply field by field. The first refusal that applies is
+ * given: dispatch 1 to 11; pricing 14, 1, 2 to 11; unpacking 1 to 10; packing 12, 5, row by row 7 to 10, then 13. */
 
 /* Dispatches a case file. Returns the reply's length, 28 + 2 * units, and writes the reply; or returns a refusal. The outputs
  * in the reply are permitted and cover the demand after losses; no permitted outputs that cover it cost less than cost - gap. */
@@ -67,7 +68,8 @@ uint32_t shahfureel_dispatch(const uint8_t *file, size_t file_length, uint8_t *r
 uint32_t shahfureel_price(const uint8_t *file, size_t file_length, uint32_t multiplier, int64_t *answers,
                           size_t answers_length);
 
-/* Packs a demand and the planner's rows into a case file. Returns the file's length and writes the file; or returns a refusal. */
+/* Packs a demand, in steps of 0.1 MW, and the planner's rows into a case file. Returns the file's length and writes the file; or
+ * returns a refusal. */
 uint32_t shahfureel_pack(uint32_t demand, const uint32_t *rows, size_t rows_length, uint8_t *file, size_t file_length);
 
 /* Unpacks a case file. Returns 0 and writes 19 numbers to a unit into rows, and answers[0], the demand, and answers[1], the

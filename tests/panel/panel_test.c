@@ -1,6 +1,6 @@
-/* The panel's four calls from C, by include/shahfureel.h and the static library alone. Each output buffer stands between guards,
- * each byte buffer from 1 to 8 bytes past an aligned address, each input in memory of exactly its size; each call is made to
- * answer and to refuse with every number that it can give. */
+/* The panel's four calls from C, by include/shahfureel.h and the static library alone. Each buffer stands between guards, each byte
+ * buffer from 1 to 8 bytes past an aligned address, each input in memory that ends with it; each call is made to answer and to
+ * refuse with every number that it can give. */
 #include "shahfureel.h"
 
 #include <stdio.h>
@@ -21,7 +21,7 @@ static void expect(int holds, const char *call, const char *what)
 
 /* ---- buffers between guards */
 
-enum { GUARD = 16, ALIGNMENTS = 8, FILLED = 0xA5, BYTES = 1480, NUMBERS = 608, ANSWERS = 2 };
+enum { GUARD = 16, ALIGNMENTS = 8, FILLED = 0xA5, BYTES = 1480, NUMBERS = 608, ANSWERS = 3 };
 
 static uint8_t byte_space[GUARD + ALIGNMENTS + BYTES + GUARD];
 static uint32_t number_space[GUARD + NUMBERS + GUARD];
@@ -100,17 +100,24 @@ static const struct {
 
 enum { DAMAGED = sizeof damaged / sizeof damaged[0] };
 
-/* ---- inputs in memory of exactly their size, so that valgrind sees a call that reads past them */
+/* ---- inputs in memory that ends with them, so that valgrind sees a call that reads or writes past them */
 
 static void *copy_of(const void *from, size_t size, size_t alignment)
 {
     uint8_t *block = malloc(alignment + size);
     if (block == NULL)
         abort();
+    memset(block, FILLED, alignment);
     return memcpy(block + alignment, from, size);
 }
 
-static void release(void *at, size_t alignment) { free((uint8_t *)at - alignment); }
+/* after a call, which must have left the input and the bytes before it as they were */
+static void release(const char *call, void *at, const void *from, size_t size, size_t alignment)
+{
+    uint8_t *block = (uint8_t *)at - alignment;
+    expect(kept_but(block, alignment, block, 0) && memcmp(at, from, size) == 0, call, "it changes no input");
+    free(block);
+}
 
 /* U5, or what it becomes by one changed byte, with room for one byte more */
 static uint8_t case_file[U5_BYTES + 1];
@@ -135,7 +142,7 @@ static uint32_t dispatch(const uint8_t *from, size_t file_length, size_t alignme
     fill();
     uint8_t *file = copy_of(from, file_length, alignment);
     uint32_t number = shahfureel_dispatch(file, file_length, byte_space + GUARD + alignment, reply_length);
-    release(file, alignment);
+    release("dispatch", file, from, file_length, alignment);
     return number;
 }
 
@@ -178,7 +185,7 @@ static uint32_t price(const uint8_t *from, size_t file_length, size_t alignment,
     fill();
     uint8_t *file = copy_of(from, file_length, alignment);
     uint32_t number = shahfureel_price(file, file_length, multiplier, answers, answers_length);
-    release(file, alignment);
+    release("price", file, from, file_length, alignment);
     return number;
 }
 
@@ -189,18 +196,19 @@ static void price_gives(const uint8_t *file, size_t file_length, size_t alignmen
     expect(all_kept(), "price", "a refusal changes nothing");
 }
 
-static void price_values(size_t alignment, uint32_t multiplier, int64_t dual, int64_t covered)
+static void price_values(size_t alignment, uint32_t multiplier, size_t answers_length, int64_t dual, int64_t covered)
 {
-    expect(price(u5(), U5_BYTES, alignment, multiplier, ANSWERS) == 0, "price", "U5 returns 0");
+    expect(price(u5(), U5_BYTES, alignment, multiplier, answers_length) == 0, "price", "U5 returns 0");
     expect(answers[0] == dual && answers[1] == covered, "price", "U5's dual value and cover");
-    expect(answers_kept_but(ANSWERS), "price", "it writes two answers and no other");
+    expect(answers_kept_but(2), "price", "it writes two answers and no other");
 }
 
 static void pricing(size_t a)
 {
-    price_values(a, 20, INT64_C(7600000000), 0);
-    price_values(a, 21, INT64_C(7700000000), 1);
-    price_values(a, SHAHFUREEL_MULTIPLIER_MAX, INT64_C(-32748000000000), 1);
+    price_values(a, 20, 2, INT64_C(7600000000), 0);
+    price_values(a, 21, 2, INT64_C(7700000000), 1);
+    price_values(a, 21, ANSWERS, INT64_C(7700000000), 1);
+    price_values(a, SHAHFUREEL_MULTIPLIER_MAX, 2, INT64_C(-32748000000000), 1);
     price_gives(u5(), U5_BYTES, a, 65537, 1, SHAHFUREEL_MULTIPLIER_OUT_OF_RANGE, "14 comes before 1");
     price_gives(u5(), U5_BYTES, a, UINT32_MAX, 2, SHAHFUREEL_MULTIPLIER_OUT_OF_RANGE, "a multiplier is unsigned");
     price_gives(u5(), U5_BYTES, a, 21, 0, SHAHFUREEL_BUFFER_TOO_SHORT, "no answer is 1");
@@ -219,7 +227,7 @@ static uint32_t pack(uint32_t demand, const uint32_t *from, size_t rows_length, 
     fill();
     uint32_t *rows = copy_of(from, rows_length * sizeof from[0], sizeof from[0]);
     uint32_t number = shahfureel_pack(demand, rows, rows_length, byte_space + GUARD + alignment, file_length);
-    release(rows, sizeof from[0]);
+    release("pack", rows, from, rows_length * sizeof from[0], sizeof from[0]);
     return number;
 }
 
@@ -278,7 +286,7 @@ static uint32_t unpack(const uint8_t *from, size_t file_length, size_t alignment
     fill();
     uint8_t *file = copy_of(from, file_length, alignment);
     uint32_t number = shahfureel_unpack(file, file_length, numbers, rows_length, answers, answers_length);
-    release(file, alignment);
+    release("unpack", file, from, file_length, alignment);
     return number;
 }
 
@@ -289,17 +297,18 @@ static void unpack_gives(const uint8_t *file, size_t file_length, size_t alignme
     expect(all_kept(), "unpack", "a refusal changes nothing");
 }
 
-static void unpack_reads(const uint8_t *file, size_t alignment, int64_t demand)
+static void unpack_reads(const uint8_t *file, size_t alignment, size_t answers_length, int64_t demand)
 {
-    expect(unpack(file, U5_BYTES, alignment, NUMBERS, ANSWERS) == 0, "unpack", "U5 returns 0");
+    expect(unpack(file, U5_BYTES, alignment, NUMBERS, answers_length) == 0, "unpack", "U5 returns 0");
     expect(memcmp(numbers, U_ROW, sizeof U_ROW) == 0 && numbers_kept_but(ROW), "unpack", "it writes U's row and no other number");
-    expect(answers[0] == demand && answers[1] == 1 && answers_kept_but(ANSWERS), "unpack", "demand and count");
+    expect(answers[0] == demand && answers[1] == 1 && answers_kept_but(2), "unpack", "demand and count");
 }
 
 static void unpacking(size_t a)
 {
-    unpack_reads(u5(), a, 5);
-    unpack_reads(u5_but(7, 11), a, 11); /* 11 is no refusal of unpacking */
+    unpack_reads(u5(), a, 2, 5);
+    unpack_reads(u5(), a, ANSWERS, 5);
+    unpack_reads(u5_but(7, 11), a, 2, 11); /* 11 is no refusal of unpacking */
     unpack_gives(u5(), U5_BYTES, a, 0, 2, SHAHFUREEL_BUFFER_TOO_SHORT, "no row is 1");
     unpack_gives(u5(), U5_BYTES, a, 607, 2, SHAHFUREEL_BUFFER_TOO_SHORT, "607 numbers are 1");
     unpack_gives(u5(), U5_BYTES, a, 608, 0, SHAHFUREEL_BUFFER_TOO_SHORT, "no answer is 1");

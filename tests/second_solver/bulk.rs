@@ -5,7 +5,7 @@ use second_solver::calls::{bytes_of, Call};
 use second_solver::generate::kinds;
 use second_solver::random::Random;
 use second_solver::solver::{self, Refused};
-use second_solver::tally::Tally;
+use second_solver::tally::{Tally, POSSIBLE_IN_C};
 use second_solver::{hex, promise, vectors};
 use std::fmt::Debug;
 use std::time::{Duration, Instant, SystemTime};
@@ -91,7 +91,9 @@ impl Buffers {
             Call::Unpack { room, .. } => (0, some_room(*room, 608, random)),
             Call::Price { .. } => (0, 0),
         };
-        let answers = random.pick(&[0, 1, 2, 2, 2, 2, 2, 2, 2, 2, 3, 9]);
+        let long = random.pick(&[256, 257, LONG, LONG + 1]);
+        let usual = random.pick(&[0, 1, 2, 2, 2, 2, 2, 2, 2, 2, 3, 9]);
+        let answers = if random.chance(200) { long } else { usual };
         Buffers {
             bytes_in: Lent::holding(file, random, random_byte),
             rows_in: Lent::holding(rows, random, random_u32),
@@ -114,12 +116,13 @@ fn some_room(own: usize, needed: usize, random: &mut Random) -> usize {
     random.pick(&[0, needed.saturating_sub(1), needed, needed + 1, any])
 }
 
-/// The call, rarely with a file that is longer by what 16 bits cannot hold.
+/// The call, rarely with a file or rows that are longer by what 16 bits cannot hold.
 fn sometimes_padded(mut call: Call, random: &mut Random) -> Call {
     match &mut call {
         Call::Dispatch { file, .. } | Call::Price { file, .. } | Call::Unpack { file, .. } if random.chance(200) => {
             file.resize(file.len() + LONG, 0);
         }
+        Call::Pack { rows, .. } if random.chance(200) => rows.resize(rows.len() + LONG, 0),
         _ => {}
     }
     call
@@ -279,7 +282,7 @@ impl Run {
 
     fn case_or_exit(&mut self, seed: u64) {
         if let Err(text) = self.case(seed) {
-            println!("{}\ncase seed {}: repeat it with `bulk --case {}`", text.trim_end(), seed, seed);
+            println!("{}\ncase seed {}: repeat it with `tests/second_solver/bulk --case {}`", text.trim_end(), seed, seed);
             std::process::exit(1);
         }
     }
@@ -303,7 +306,7 @@ fn run_for(seconds: u64, seed: u64) {
     }
     run.print();
     if run.cases >= 1_000 {
-        run.tally.assert_complete();
+        run.tally.assert_complete(POSSIBLE_IN_C);
     }
     println!("repeat this run with seed {}", seed);
 }

@@ -363,13 +363,13 @@ fn beyond_the_fields(case: &Case, random: &mut Random) -> Vec<Call> {
     calls
 }
 
-/// A unit of one zone with a number behind it that is not zero, and zone counts that do not fit the edges.
+/// A unit of no to three zones with a number behind them that is not zero, and zone counts that do not fit the edges.
 fn unused_edges(case: &Case, random: &mut Random) -> Vec<Call> {
     let unit = random.below(3);
     let mut case = case.clone();
-    case.units[unit].zones.truncate(1);
+    case.units[unit].zones.truncate(random.below(4));
     let mut calls = Vec::new();
-    for index in FIRST_EDGE + 2..19 {
+    for index in FIRST_EDGE + 2 * case.units[unit].zones.len()..19 {
         let value = random.pick(&[1, 65_536, u32::MAX]);
         calls.push(pack_rows(&case, changed_rows(&case, &[Change { unit, index, value }])));
     }

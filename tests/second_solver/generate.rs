@@ -19,6 +19,11 @@ fn kind(name: &'static str, times: usize, make: fn(&mut Random) -> Vec<Call>) ->
 }
 
 pub fn kinds() -> Vec<Kind> {
+    [accepted_kinds(), damaged_kinds()].concat()
+}
+
+/// Kinds of accepted files: some of each are dispatched.
+pub fn accepted_kinds() -> Vec<Kind> {
     vec![
         kind("table", 1, table),
         kind("further-vectors", 1, further_vectors),
@@ -37,6 +42,12 @@ pub fn kinds() -> Vec<Kind> {
         kind("demand-at-capacity", 3, demand_at_capacity),
         kind("large-losses", 6, large_losses),
         kind("exact-demand", 7, exact_demand),
+        kind("largest", 1, largest),
+    ]
+}
+
+fn damaged_kinds() -> Vec<Kind> {
+    vec![
         kind("fields-at-limits", 1, damage::fields_at_limits),
         kind("head-at-limits", 1, damage::head_at_limits),
         kind("cut-and-padded", 1, damage::cut_and_padded),
@@ -153,10 +164,25 @@ fn set_window(unit: &mut Unit, mut points: [i128; 3]) {
     unit.up = points[2] - points[1];
 }
 
+/// Gives a unit any ramp window, which may reach to 0 and below, or to 10,000 and above.
+fn set_any_window(unit: &mut Unit, random: &mut Random) {
+    let points = [point(unit, random), point(unit, random), point(unit, random)];
+    set_window(unit, points);
+    if random.chance(3) {
+        unit.down = random.pick(&[unit.previous, unit.previous + 1, 10_000]).min(10_000);
+    }
+    if random.chance(3) {
+        unit.up = random.pick(&[10_000 - unit.previous, 10_001 - unit.previous, 10_000]);
+    }
+}
+
+/// Gives a unit a ramp window, or steps that have no effect as the previous output is 0, or neither.
 fn maybe_set_window(unit: &mut Unit, random: &mut Random) {
     if random.chance(2) {
-        let points = [point(unit, random), point(unit, random), point(unit, random)];
-        set_window(unit, points);
+        set_any_window(unit, random);
+    } else if random.chance(2) {
+        unit.up = random.pick(&[0, 1, 5, 10_000]);
+        unit.down = random.pick(&[0, 1, 5, 10_000]);
     }
 }
 
@@ -309,23 +335,23 @@ fn four_zones(random: &mut Random) -> Vec<Call> {
 fn ramps_that_cut_zones(random: &mut Random) -> Vec<Call> {
     let mut units = vec![small_unit(random), small_unit(random)];
     for unit in &mut units {
-        let points = [point(unit, random), point(unit, random), point(unit, random)];
-        set_window(unit, points);
+        set_any_window(unit, random);
     }
     let case = with_demand(units, random);
     calls_of_case(&case, random)
 }
 
+/// Units that cost and lose nothing, at a demand that they can give and at any.
 fn zero_coefficients(random: &mut Random) -> Vec<Call> {
     let mut units = vec![small_unit(random), large_unit(random)];
     for unit in &mut units {
-        unit.c0 = 0;
-        unit.c1 = 0;
-        unit.c2 = 0;
-        unit.b = 0;
+        *unit = Unit { c0: 0, c1: 0, c2: 0, b: 0, ..unit.clone() };
     }
-    let case = with_demand(units, random);
-    calls_of_case(&case, random)
+    let given = Case { demand: random.between(0, capacity(&units)), units: units.clone() };
+    let any = with_demand(units, random);
+    let mut calls = calls_of_case(&given, random);
+    calls.extend(calls_of_case(&any, random));
+    calls
 }
 
 /// Units of the greatest outputs and costs, without losses or with the greatest; also a demand one above capacity.
@@ -379,6 +405,28 @@ fn exact_demand(random: &mut Random) -> Vec<Call> {
         case.demand = choices.iter().map(|offer| offer.output).sum();
     }
     calls_of_case(&case, random)
+}
+
+/// Files of the greatest length, 32 units of four zones up to the greatest output: free, of the greatest costs without losses and
+/// with the greatest, and of any; each at demand 0, at half of capacity, at capacity and one above.
+fn largest(random: &mut Random) -> Vec<Call> {
+    let units: Vec<Unit> = (0..32).map(|_| Unit { greatest: 10_000, mark: 0, ..unit(random, 9_800, 20, 4) }).collect();
+    let alike = |c0, c1, c2, b| -> Vec<Unit> { units.iter().map(|unit| Unit { c0, c1, c2, b, ..unit.clone() }).collect() };
+    let free = alike(0, 0, 0, 0);
+    let costly = alike(1_000_000_000, 10_000_000, 1_000, 0);
+    let lossy = alike(1_000_000_000, 10_000_000, 1_000, 5_000);
+    let mut calls = Vec::new();
+    for units in [free, costly, lossy, units.clone()] {
+        let capacity = capacity(&units);
+        for demand in [0, capacity / 2, capacity, capacity + 1] {
+            let file = solver::encode(&Case { demand, units: units.clone() });
+            calls.push(Call::Dispatch { file, room: 92 });
+        }
+        let half = Case { demand: capacity / 2, units };
+        calls.push(Call::Price { multiplier: near_a_tie(&half, random), file: solver::encode(&half) });
+        calls.push(pack(&half, random));
+    }
+    calls
 }
 
 // ---- buffers and multipliers

@@ -3,14 +3,17 @@
 use crate::calls::NAMES;
 use crate::solver::Refused;
 
-/// The numbers that each call can give by document 01's table of refusals, calls in the order of their indices. In C a list
-/// of answers under two numbers gives pricing the number 1 too.
-const POSSIBLE: [&[usize]; 4] = [
+/// The numbers that each call can give by document 01's table of refusals, calls in the order of their indices.
+pub const POSSIBLE: [&[usize]; 4] = [
     &[1, 2, 3, 4, 5, 6, 7, 8, 9, 10, 11],
     &[2, 3, 4, 5, 6, 7, 8, 9, 10, 11, 14],
     &[5, 7, 8, 9, 10, 12, 13],
     &[1, 2, 3, 4, 5, 6, 7, 8, 9, 10],
 ];
+
+/// The same of the calls in C, where a list of answers under two numbers gives pricing the number 1 too.
+pub const POSSIBLE_IN_C: [&[usize]; 4] =
+    [POSSIBLE[0], &[1, 2, 3, 4, 5, 6, 7, 8, 9, 10, 11, 14], POSSIBLE[2], POSSIBLE[3]];
 
 /// Counts by call and number; number 0 stands for an answer.
 #[derive(Default)]
@@ -40,8 +43,8 @@ impl Tally {
     }
 
     /// Asserts that every call was answered, and refused by every number that it can give.
-    pub fn assert_complete(&self) {
-        for ((name, counts), possible) in NAMES.iter().zip(&self.0).zip(POSSIBLE) {
+    pub fn assert_complete(&self, possible: [&[usize]; 4]) {
+        for ((name, counts), possible) in NAMES.iter().zip(&self.0).zip(possible) {
             assert!(counts[0] > 0, "{} was never answered", name);
             for number in possible {
                 assert!(counts[*number] > 0, "{} was never refused with {}", name, number);

@@ -1,10 +1,10 @@
 //! Writes the runner's two files: `write STDIN STDOUT`. The format is in README.md.
 
 use second_solver::calls::{bytes_of, Call};
-use second_solver::generate::kinds;
+use second_solver::generate::{accepted_kinds, kinds};
 use second_solver::random::Random;
 use second_solver::solver::{self, Refused};
-use second_solver::tally::Tally;
+use second_solver::tally::{Tally, POSSIBLE};
 use second_solver::{hex, promise, vectors};
 
 const SEED: u64 = 1;
@@ -32,7 +32,7 @@ fn main() {
     };
     let vectors = vectors::check();
     let files = make_files();
-    files.tally.assert_complete();
+    files.tally.assert_complete(POSSIBLE);
     std::fs::write(input_path, input(&files.records)).expect(input_path);
     std::fs::write(output_path, output(&files)).expect(output_path);
     println!("{} vectors as the papers state them", vectors);
@@ -46,9 +46,12 @@ fn make_files() -> Files {
     let mut counts = Vec::new();
     for (index, kind) in kinds.iter().enumerate() {
         let calls: Vec<Call> = (0..kind.times).flat_map(|_| (kind.make)(&mut random)).collect();
+        let first = files.lines.len();
         for call in &calls {
             files.add_call(index, call);
         }
+        let dispatched = files.lines[first..].iter().any(|line| line.starts_with("dispatch ") && !line.contains("refused"));
+        assert!(dispatched || index >= accepted_kinds().len(), "no case of {} is dispatched", kind.name);
         counts.push(calls.len());
     }
     for (index, kind) in kinds.iter().enumerate() {

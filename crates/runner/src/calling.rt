@@ -186,7 +186,10 @@ pub fn run(
         price(given, argument)
     } else if call == 3 {
         pack(argument, given, room, bytes, numbers)
-    } else {
+    } else if call == 4 {
         unpack(given, room, numbers)
+    } else {
+        word(b"call\n");
+        0
     }
 }
