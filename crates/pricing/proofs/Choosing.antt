@@ -8,10 +8,10 @@ use native.Mathlib.Decide.{ℕ-discrete}
 use native.Mathlib.Omega.{arith}
 use lib.IntN.{ℤ}
 use lib.Signed.{leZ}
-use Rattle.rules.specs.Unit.{Offer, cost}
+use Rattle.rules.specs.Unit.{Offer}
 use Rattle.rules.specs.Choice.{pricedCost, choiceOf, choice}
 use Rattle.rules.proofs.Integers.{Is, at-most, under, when-le, when-gt}
-use Rattle.rules.proofs.Quantities.{priced-is, net-whole}
+use Rattle.rules.proofs.Quantities.{cost-is, priced-is, net-whole}
 use Rattle.rules.proofs.Chosen.{Chosen, Among, Ascends, unique, alike, single, first, second, scanned}
 use Rattle.pricing.specs.declared.Offer as code-offer
 use Rattle.pricing.specs.Turn.{Turn}
@@ -37,8 +37,7 @@ Priced o m p x = Is x (square o m * (p * p) + 100000 * o .c1 * p + 100000 * o .c
 
 module _ {o : code-offer.Offer} (s : Coefficients o) (m : ℕ) where
   priced-at : (p : ℕ) → p ≤ 10000 → Priced o m p (pricedCost m (unitOf o) p)
-  unfolding cost
-  priced-at p h = record { is = omega (arith, priced-is m (unitOf o) p, ap (λ (n : ℕ). m * n) (net-whole (sound s) {p = p} h)) }
+  priced-at p h = record { is = omega (arith, priced-is m (unitOf o) p, cost-is (unitOf o) p, ap (λ (n : ℕ). m * n) (net-whole (sound s) {p = p} h)) }
 
   -- the choice in an interval of running outputs, or of output 0 alone, which has no step
   best-in : {from to r : ℕ} → (from ≡ 0 → to ≡ 0) → to ≤ 10000 → Turns o m from to r → Chosen (pricedCost m (unitOf o)) (Between from to) r

@@ -1,12 +1,15 @@
--- What a loop over `each n f` has still to look at, from index i on: the next element, and nothing at the end.
+-- What a loop has still to look at, from index i on: the next element, and nothing at the end. Of `each n f`, of verdicts in order, and of a list whose elements are to be all the same.
 use Prim.Native.Nat.{ℕ, _+_, _≤_, _<_}
 use native.Mathlib.Numerals.{add-one}
 use native.Mathlib.Omega.{arith}
 use mathlib.Core.Path.{_≡_, refl, ap, _∙_}
-use mathlib.Core.List.{[], _∷_}
-use lib.ListN.{drop, drop-of-length-le}
+use mathlib.Core.Bool.{Bool, true, false}
+use mathlib.Core.List.{List, [], _∷_}
+use lib.Dec.{eqb}
+use lib.ListN.{length, getD, drop, drop-of-length-le}
 use lib.Seq.{drop-cons}
-use Rattle.rules.specs.Lists.{each}
+use borrow.Author.Tests.{eq-eqb, ne-eqb}
+use Rattle.rules.specs.Lists.{each, all}
 use Rattle.rules.specs.Refusal.{inOrder}
 use Rattle.rules.specs.declared.Refusal.{Refusal}
 use Rattle.rules.specs.declared.Verdict.{Verdict}
@@ -42,3 +45,19 @@ module _ (n : ℕ) (f : ℕ → Verdict) where
 
       pub checked-more : f i ≡ Accepted → Checked n f (i + 1)
       checked-more e = record { within = omega arith; rest = c .rest ∙ rw (rest-more n f i h, e) }
+
+-- ---- whether all elements are x
+
+abbrev pub allFrom : ℕ → List ℕ → ℕ → Bool
+allFrom x s i = all (λ e. eqb e x) (drop i s)
+
+module _ (x : ℕ) (s : List ℕ) (i : ℕ) where
+  pub all-ends : length s ≤ i → allFrom x s i ≡ true
+  all-ends h = rw (drop-of-length-le s h)
+
+  module _ (h : i < length s) where
+    pub all-fails : (getD s i 0 ≡ x → ⊥) → allFrom x s i ≡ false
+    all-fails n = rw (drop-cons s i 0 h, ne-eqb (getD s i 0) x n)
+
+    pub all-more : getD s i 0 ≡ x → allFrom x s i ≡ allFrom x s (i + 1)
+    all-more e = rw (drop-cons s i 0 h, eq-eqb (getD s i 0) x e, add-one)

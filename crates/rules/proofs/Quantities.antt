@@ -1,5 +1,5 @@
--- The range of every quantity of a sound unit at an output up to its greatest, and that net grows with the output. In this crate this file alone looks at what cost and net are made of.
-use mathlib.Core.Path.{_≡_}
+-- The range of every quantity of a sound unit at an output up to its greatest, and that net grows with the output. This file alone looks at what cost and net are made of; others cite `cost-is` and `net-is`.
+use mathlib.Core.Path.{_≡_, refl}
 use Prim.Native.Nat.{ℕ, zero, suc, _+_, _*_, _-_, _≤_}
 use native.Mathlib.Nat.{add-zero, le-refl, mul-le-mul, mul-le-mul-right}
 use native.Mathlib.Omega.{arith}
@@ -8,6 +8,14 @@ use Rattle.rules.specs.Unit.{cost, net}
 use Rattle.rules.specs.Choice.{pricedCost}
 use Rattle.rules.proofs.Integers.{Is, is-sub}
 use Rattle.rules.proofs.Sound.{Sound}
+
+pub cost-is : (u : Unit) (p : ℕ) → cost u p ≡ u .c0 + u .c1 * p + u .c2 * p * p
+unfolding cost
+cost-is u p = refl
+
+pub net-is : (u : Unit) (p : ℕ) → net u p ≡ 100000000 * p - u .b * p * p
+unfolding net
+net-is u p = refl
 
 -- the products of which cost and net are made, for `omega`, which bounds no product itself
 pub record Products (u : Unit) (p : ℕ) : Type 0 where

@@ -1,7 +1,10 @@
 // Each public call on one case: its answer on one line, with whether the rest of the lent buffer kept its contents, and as a
 // number: the refusal's, or 0.
 ghost use Prim.Native.Nat.{_≤_};
-ghost use lib.ListN.{length};
+ghost use mathlib.Core.Path.{_≡_};
+ghost use lib.Dec.{eqb};
+ghost use lib.ListN.{length, drop};
+ghost use Rattle.rules.specs.Lists.{all};
 use crate::printing::decimals;
 use crate::printing::hexadecimal;
 use crate::printing::least;
@@ -32,7 +35,9 @@ fn fill_numbers(numbers: &mut [u32]) {
 }
 
 // Whether the bytes from `from` on are what they were before the call.
-fn bytes_kept(bytes: &[u8], from: usize) -> bool {
+fn bytes_kept(bytes: &[u8], from: usize) -> bool
+    ensures { λ r. ⌜ r ≡ all (λ b. eqb b 165) (drop from (now (bytes .entry))) ⌝ }
+{
     let mut i = from;
     while i < bytes.len() {
         if bytes[i] != 165 {
@@ -44,7 +49,9 @@ fn bytes_kept(bytes: &[u8], from: usize) -> bool {
 }
 
 // Whether the numbers from `from` on are what they were before the call.
-fn numbers_kept(numbers: &[u32], from: usize) -> bool {
+fn numbers_kept(numbers: &[u32], from: usize) -> bool
+    ensures { λ r. ⌜ r ≡ all (λ n. eqb n 2779096485) (drop from (now (numbers .entry))) ⌝ }
+{
     let mut i = from;
     while i < numbers.len() {
         if numbers[i] != 2779096485 {

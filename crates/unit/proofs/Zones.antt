@@ -1,35 +1,15 @@
--- The two loops over a unit's edges: what is left to look at decides what all of it decides.
+-- The loop over a unit's zones: what is left to look at decides what all of it decides.
 use Prim.Native.Nat.{ℕ, _+_, _*_, _≤_, _<_}
-use native.Mathlib.Numerals.{add-one}
 use mathlib.Core.Path.{_≡_}
-use mathlib.Core.Bool.{Bool, true, false}
+use mathlib.Core.Bool.{Bool, false}
 use mathlib.Core.List.{List}
-use lib.Dec.{ltb, eqb}
-use lib.ListN.{length, getD, drop, drop-of-length-le}
-use lib.Seq.{drop-cons}
-use borrow.Author.Tests.{lt-ltb, le-ltb, eq-eqb, ne-eqb}
+use lib.Dec.{ltb}
+use lib.ListN.{getD, drop}
+use borrow.Author.Tests.{lt-ltb, le-ltb}
 use Rattle.rules.specs.Lists.{each, all}
 use Rattle.rules.specs.Layout.{zoneAt}
 use Rattle.rules.specs.Refusal.{zonesAscend}
 use Rattle.rules.proofs.Each.{rest-ends, rest-more}
-
--- ---- the unused edges
-
-abbrev pub allZero : List ℕ → Bool
-allZero s = all (λ e. eqb e 0) s
-
-module _ (edges : List ℕ) (k : ℕ) where
-  pub zero-ends : length edges ≤ k → allZero (drop k edges) ≡ true
-  zero-ends h = rw (drop-of-length-le edges h)
-
-  module _ (h : k < length edges) where
-    pub zero-fails : (getD edges k 0 ≡ 0 → ⊥) → allZero (drop k edges) ≡ false
-    zero-fails n = rw (drop-cons edges k 0 h, ne-eqb (getD edges k 0) 0 n)
-
-    pub zero-more : getD edges k 0 ≡ 0 → allZero (drop k edges) ≡ allZero (drop (k + 1) edges)
-    zero-more e = rw (drop-cons edges k 0 h, eq-eqb (getD edges k 0) 0 e, add-one)
-
--- ---- the zones in use
 
 -- whether the zones from number k on ascend above `below`
 abbrev pub ascendFrom : List ℕ → ℕ → ℕ → ℕ → ℕ → Bool

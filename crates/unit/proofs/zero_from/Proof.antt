@@ -4,12 +4,12 @@ use native.Mathlib.Omega.{arith}
 use mathlib.Core.Path.{_≡_, refl, sym, _∙_}
 use lib.ListN.{length, drop}
 use borrow.Author.Needs.{needs}
-use Rattle.unit.proofs.Zones.{allZero, zero-ends, zero-fails, zero-more}
+use Rattle.rules.proofs.Each.{allFrom, all-ends, all-fails, all-more}
 use Rattle.unit.proofs.zero_from.Statement.{statement}
 use Rattle.unit.proofs.zero_from.Tie as tie
 
 abbrev Inv-loop : tie.InvT-loop
-Inv-loop first edges k₀ k = (length edges ≡ 8) × (allZero (drop first edges) ≡ allZero (drop k edges))
+Inv-loop first edges k₀ k = (length edges ≡ 8) × (allFrom 0 edges first ≡ allFrom 0 edges k)
 
 abbrev μ-loop : tie.MeasureT-loop
 μ-loop first edges k₀ k = 8 - k
@@ -27,7 +27,7 @@ returns : tie.Need-returns Inv-loop μ-loop
 returns c =
     let l = c .before .before .loop in
     let a = c .before .before .before .args in
-    sym (l .inv .1 ∙ zero-fails (a .t1) (l .k) (omega arith) (c .if1 .taken))
+    sym (l .inv .1 ∙ all-fails 0 (a .t1) (l .k) (omega arith) (c .if1 .taken))
 
 add-k : tie.Need-add-k Inv-loop μ-loop
 add-k c = omega arith
@@ -39,13 +39,13 @@ loop-again : tie.Need-loop-again Inv-loop μ-loop
 loop-again c =
     let l = c .before .before .loop in
     let a = c .before .before .before .args in
-    (l .inv .0, l .inv .1 ∙ zero-more (a .t1) (l .k) (omega arith) (c .if1 .left))
+    (l .inv .0, l .inv .1 ∙ all-more 0 (a .t1) (l .k) (omega arith) (c .if1 .left))
 
 returns-2 : tie.Need-returns-2 Inv-loop μ-loop
 returns-2 c =
     let l = c .before .loop in
     let a = c .before .before .args in
-    sym (l .inv .1 ∙ zero-ends (a .t1) (l .k) (omega arith))
+    sym (l .inv .1 ∙ all-ends 0 (a .t1) (l .k) (omega arith))
 
 pub zero-from-spec : {M : Type 1} → statement M
 zero-from-spec =

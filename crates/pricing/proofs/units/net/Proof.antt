@@ -1,8 +1,8 @@
 -- `pricing::units::net` meets its contract: every product is in range, and the loss stays below the output.
 use borrow.Author.Needs.{needs}
 use native.Mathlib.Omega.{arith}
-use mathlib.Core.Path.{refl}
-use Rattle.rules.specs.Unit.{net}
+use mathlib.Core.Path.{sym}
+use Rattle.rules.proofs.Quantities.{net-is}
 use Rattle.pricing.proofs.Range.{range}
 use Rattle.pricing.proofs.units.net.Statement.{statement}
 use Rattle.pricing.proofs.units.net.Tie as tie
@@ -20,8 +20,7 @@ sub-result : tie.Need-sub-result
 sub-result c = omega (arith, range (c .before .pre))
 
 returns : tie.Need-returns
-unfolding net
-returns c = refl
+returns c = sym (net-is _ _)
 
 pub net-spec : {M : Type 1} → statement M
 net-spec = tie.close (tie.spec mul-result mul-result-2 mul-result-3 sub-result returns)
