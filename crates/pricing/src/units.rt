@@ -1,6 +1,6 @@
 // One unit: where its priced cost at a multiplier turns, its choice among its regions, and the cost and net of an output.
 ghost use mathlib.Core.Path.{_≡_};
-ghost use Prim.Native.Nat.{ℕ, _+_, _*_, _≤_, _<_};
+ghost use Prim.Native.Nat.{ℕ, _+_, _*_, _≤_, _<_, max, min};
 ghost use Rattle.rules.specs.Unit.{cost as Unit·cost, net as Unit·net};
 ghost use Rattle.rules.proofs.Integers.{up, dn, Is};
 ghost use Rattle.pricing.specs.Turn.{Turn};
@@ -30,20 +30,17 @@ fn vertex(a: u64, l: i64) -> u16
     v as u16
 }
 
-// Where it turns on 0..=`high`, given where it turns on 0..=10000.
-fn at_most(v: u16, high: u16) -> u16
-    requires { ⌜ high ≤ 10000 ⌝ }
-    ensures { λ r. ⌜ ((a s t : ℕ) → Turn a s t 0 10000 v → Turn a s t 0 high r) ⌝ }
+fn smaller(a: u16, b: u16) -> u16
+    ensures { λ r. ⌜ r ≡ min a b ⌝ }
 {
-    if high < v { high } else { v }
+    if a < b { a } else { b }
 }
 
-// Where it turns on `low`..=`high`, given where it turns on 0..=10000.
+// Where it turns on `low`..=`high`, if it turns at `v` on 0..=10000 (law `Turn.clamped`).
 fn clamp(v: u16, low: u16, high: u16) -> u16
-    requires { ⌜ (low ≤ high) × (high ≤ 10000) ⌝ }
-    ensures { λ r. ⌜ ((a s t : ℕ) → Turn a s t 0 10000 v → Turn a s t low high r) ⌝ }
+    ensures { λ r. ⌜ r ≡ max low (min v high) ⌝ }
 {
-    let below = at_most(v, high);
+    let below = smaller(v, high);
     if below < low { low } else { below }
 }
 

@@ -12,6 +12,7 @@ use mir.Facts.{toZ-ofZ}
 use Rattle.rules.proofs.Integers.{Is, is-minus, is-same, cast, fits, kept, up-is, dn-is}
 use Rattle.pricing.specs.Regions.{low, high}
 use Rattle.pricing.specs.Choosing.{Priceable}
+use Rattle.pricing.proofs.Turn.{clamped}
 use Rattle.pricing.proofs.Choosing.{Turns, Priced, Choosing, choosing-starts, choosing-next, choosing-same, choosing-ends}
 use Rattle.pricing.proofs.units.choose.Statement.{statement}
 use Rattle.pricing.proofs.units.choose.Tie as tie
@@ -54,10 +55,15 @@ module _ (s : tie.Start Inv-loop μ-loop) where
 
 -- where the first region turns, and the next one
 turns-first : (c : tie.After-clamp Inv-loop μ-loop) → let s = c .before .before .before .before .before .before .before .before in Turns (s .args .o) (s .args .m) (low (s .args .o) 0) (high (s .args .o) 0) (c .clamp .result)
-turns-first c = c .clamp .ensures _ _ _ (c .before .before .before .vertex .ensures _ _ (l-read (c .before .before .before .before .before .before .before .before)))
+turns-first c =
+    let s = c .before .before .before .before .before .before .before .before in
+    rw (c .clamp .ensures) (clamped (c .before .before .before .vertex .ensures _ _ (l-read s)) (s .pre .bounded .order 0 (s .pre .some)) (s .pre .bounded .limit 0 (s .pre .some)))
 
 turns-next : (c : tie.After-clamp2 Inv-loop μ-loop) → let s = c .before .before .before .before .before .before .before .before .before .before .before .before .before in let k = c .before .before .before .loop .k in Turns (s .args .o) (s .args .m) (low (s .args .o) k) (high (s .args .o) k) (c .clamp2 .result)
-turns-next c = c .clamp2 .ensures _ _ _ (c .before .before .before .before .before .before .before .before .vertex .ensures _ _ (l-read (c .before .before .before .before .before .before .before .before .before .before .before .before .before)))
+turns-next c =
+    let s = c .before .before .before .before .before .before .before .before .before .before .before .before .before in
+    let l = c .before .if1 .taken in
+    rw (c .clamp2 .ensures) (clamped (c .before .before .before .before .before .before .before .before .vertex .ensures _ _ (l-read s)) (s .pre .bounded .order _ l) (s .pre .bounded .limit _ l))
 
 mul-a : tie.Need-mul-a Inv-loop μ-loop
 mul-a c = omega (arith, c .before .pre .bounded .coefficients .c2)
@@ -96,7 +102,7 @@ array-read-clamp-2 : tie.Need-array-read-clamp-2 Inv-loop μ-loop
 array-read-clamp-2 c = omega arith
 
 clamp-requires : tie.Need-clamp-requires Inv-loop μ-loop
-clamp-requires c κs = let s = c .before .before .before .before .before .before .before in (s .pre .bounded .order 0 (s .pre .some), s .pre .bounded .limit 0 (s .pre .some))
+clamp-requires c κs = search needs
 
 priced-cost-requires : tie.Need-priced-cost-requires Inv-loop μ-loop
 priced-cost-requires c κs = priceable (c .before .before .before .before .before .before .before .before) (omega (arith, turns-first c .to, c .before .before .before .before .before .before .before .before .pre .bounded .limit 0 (c .before .before .before .before .before .before .before .before .pre .some)))
@@ -119,7 +125,7 @@ array-read-clamp-4 : tie.Need-array-read-clamp-4 Inv-loop μ-loop
 array-read-clamp-4 c = omega arith
 
 clamp-requires-2 : tie.Need-clamp-requires-2 Inv-loop μ-loop
-clamp-requires-2 c κs = let s = c .before .before .before .before .before .before .before .before .before .before .before .before in (s .pre .bounded .order _ (c .if1 .taken), s .pre .bounded .limit _ (c .if1 .taken))
+clamp-requires-2 c κs = search needs
 
 priced-cost-requires-2 : tie.Need-priced-cost-requires-2 Inv-loop μ-loop
 priced-cost-requires-2 c κs = priceable (c .before .before .before .before .before .before .before .before .before .before .before .before .before) (omega (arith, turns-next c .to, c .before .before .before .before .before .before .before .before .before .before .before .before .before .pre .bounded .limit _ (c .before .if1 .taken)))

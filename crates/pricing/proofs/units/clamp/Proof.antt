@@ -1,18 +1,17 @@
--- `pricing::units::clamp` meets its contract: each return is a law of `Turn`.
+-- `pricing::units::clamp` meets its contract: it is the greater of `low` and what `smaller` gives.
 use borrow.Author.Needs.{needs}
 use native.Mathlib.Omega.{arith}
-use Rattle.pricing.proofs.Turn.{raised, kept}
 use Rattle.pricing.proofs.units.clamp.Statement.{statement}
 use Rattle.pricing.proofs.units.clamp.Tie as tie
 
-at-most-requires : tie.Need-at-most-requires
-at-most-requires c κs = search needs
+smaller-requires : tie.Need-smaller-requires
+smaller-requires c κs = search needs
 
 returns : tie.Need-returns
-returns c = λ a s t v. raised (c .before .at-most .ensures a s t v) (omega arith) (omega arith) (c .if1 .taken)
+returns c = omega (arith, c .before .smaller .ensures, c .if1 .taken)
 
 returns-2 : tie.Need-returns-2
-returns-2 c = λ a s t v. kept (c .before .at-most .ensures a s t v) (omega arith) (omega arith) (c .if1 .left) (c .before .at-most .ensures a s t v .to)
+returns-2 c = omega (arith, c .before .smaller .ensures, c .if1 .left)
 
 pub clamp-spec : {M : Type 1} → statement M
-clamp-spec = tie.close (tie.spec at-most-requires returns returns-2)
+clamp-spec = tie.close (tie.spec smaller-requires returns returns-2)
