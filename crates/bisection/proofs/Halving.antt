@@ -7,10 +7,11 @@ use mathlib.Core.Bool.{cond}
 use mathlib.Core.List.{List, [], _∷_}
 use lib.IntN.{ℤ}
 use lib.Signed.{leZ}
-use Rattle.rules.specs.Unit.{Problem, unitsOf, totalNet}
-use Rattle.rules.specs.Choice.{choices, dualValue, dividedUp, floor, greatestAt, greatestFloor}
+use Rattle.rules.specs.Numbers.{dividedUp, greatestAt}
+use Rattle.rules.specs.Problem.{Problem, unitsOf, totalNet, target}
+use Rattle.rules.specs.Choice.{selected, dualValue, floor, greatestFloor}
 use Rattle.rules.specs.Bisection.{Found, step4}
-use Rattle.rules.proofs.Steps.{step4-equal, step4-covers, step4-short, step4-ends}
+use Rattle.rules.proofs.Economics.Steps.{step4-equal, step4-covers, step4-short, step4-ends}
 use Rattle.pricing.specs.declared.Problem as code-problem
 use Rattle.pricing.specs.declared.Allocation as code-allocation
 use Rattle.pricing.specs.declared.Evaluation as code-evaluation
@@ -23,13 +24,18 @@ pub floor-more : (p : Problem) (m n : ℕ) (ms : List ℕ) (z : ℤ) → z ≡ g
 unfolding greatestAt floor
 floor-more p m n ms z e d f = rw (e, f)
 
+-- what an evaluation takes
+pub taken : {q : code-problem.Problem} {m : ℕ} {e : code-evaluation.Evaluation} → Evaluates q m e → (p : Problem) → HoldsProblem q p → HoldsOutputs p (selected m p) (e .choices)
+unfolding selected
+taken v p i = v .choices p i
+
 -- half of a power of two that is not 1
 pub half : (w k : ℕ) → w ≡ 2 ^ k → (w ≡ 1 → ⊥) → (j : ℕ) × (k ≡ suc j) × (w / 2 ≡ 2 ^ j)
 half w zero e n = absurd (n e)
 half w (suc j) e n = (j, refl, let f : w ≡ 2 ^ j * 2 = e ∙ pow-suc 2 j in omega arith)
 
 abbrev step : Problem → ℕ → ℕ → List ℕ → List ℕ → Found (List ℕ)
-step p k low b ms = step4 (λ m. choices m p) (totalNet (unitsOf p)) (100000000 * p .demand) k low b ms
+step p k low b ms = step4 (λ m. selected m p) (totalNet (unitsOf p)) (target p) k low b ms
 
 -- for a problem p whose step 4 starts from b: what is found so far, and that the rest of step 4 from here is the whole of it
 pub record Reached (p : Problem) (b : List ℕ) (k low last : ℕ) (before : List ℕ) (f : code.Found) : Type 0 where
@@ -74,7 +80,7 @@ halving-ends {q} {start} {f} {low} {width} h e =
       held = λ p i b g.
           let r = h .reached p i b g in
           let whole : step p 0 low (r .best) (h .last ∷ h .before) ≡ halved p b = rw zeroth at (r .rest) in
-          subst (λ (x : Found (List ℕ)). HoldsFound p x f) (sym (step4-ends (λ m. choices m p) (totalNet (unitsOf p)) (100000000 * p .demand) low (r .best) (h .last ∷ h .before)) ∙ whole) (r .holds);
+          subst (λ (x : Found (List ℕ)). HoldsFound p x f) (sym (step4-ends (λ m. selected m p) (totalNet (unitsOf p)) (target p) low (r .best) (h .last ∷ h .before)) ∙ whole) (r .holds);
     }
 
 -- ---- one evaluation more
@@ -100,13 +106,13 @@ module _ {q : code-problem.Problem} {start f : code.Found} {low width : ℕ} (h 
 
   -- the evaluation is that of the middle
   module _ (p : Problem) (i : HoldsProblem q p) where
-    middle-choices : HoldsOutputs p (choices (low + 2 ^ j) p) (e .choices)
-    middle-choices = rw halfway at (v .choices p i)
+    middle-taken : HoldsOutputs p (selected (low + 2 ^ j) p) (e .choices)
+    middle-taken = rw halfway at (taken v p i)
 
     middle-dual : e .dual ≡ dualValue (low + 2 ^ j) p
     middle-dual = rw halfway at (v .dual p i)
 
-    target-is : 100000000 * p .demand ≡ 100000000 * q .demand
+    target-is : target p ≡ 100000000 * q .demand
     target-is = ap (λ (d : ℕ). 100000000 * d) (i .demand)
 
     module _ (b : List ℕ) (g : HoldsFound p (record { best = b; evaluated = 65536 ∷ 0 ∷ [] }) start) where
@@ -133,9 +139,9 @@ module _ {q : code-problem.Problem} {start f : code.Found} {low width : ℕ} (h 
         few = omega (arith, h .left, next);
         held = λ p i b g.
             let m = low + 2 ^ j in
-            let o = middle-choices p i in
-            let same = step4-equal (λ m. choices m p) (totalNet (unitsOf p)) (100000000 * p .demand) j low (r p i b g .best) (h .last ∷ h .before) (sym (o .net) ∙ n ∙ sym (target-is p i)) in
-            subst (λ (x : Found (List ℕ)). HoldsFound p x (noted (e .choices) f e)) (sym same ∙ whole p i b g) (noted-holds p i b g (choices m p) (e .choices) o);
+            let o = middle-taken p i in
+            let same = step4-equal (λ m. selected m p) (totalNet (unitsOf p)) (target p) j low (r p i b g .best) (h .last ∷ h .before) (sym (o .net) ∙ n ∙ sym (target-is p i)) in
+            subst (λ (x : Found (List ℕ)). HoldsFound p x (noted (e .choices) f e)) (sym same ∙ whole p i b g) (noted-holds p i b g (selected m p) (e .choices) o);
       }
 
   -- "Covering: it is the best and the new high."
@@ -151,9 +157,9 @@ module _ {q : code-problem.Problem} {start f : code.Found} {low width : ℕ} (h 
         sized = v .sized;
         reached = λ p i b g.
             let m = low + 2 ^ j in
-            let o = middle-choices p i in
-            let same = step4-covers (λ m. choices m p) (totalNet (unitsOf p)) (100000000 * p .demand) j low (r p i b g .best) (h .last ∷ h .before) (omega (arith, o .net, target-is p i)) in
-            record { best = choices m p; holds = noted-holds p i b g (choices m p) (e .choices) o; rest = sym same ∙ whole p i b g };
+            let o = middle-taken p i in
+            let same = step4-covers (λ m. selected m p) (totalNet (unitsOf p)) (target p) j low (r p i b g .best) (h .last ∷ h .before) (omega (arith, o .net, target-is p i)) in
+            record { best = selected m p; holds = noted-holds p i b g (selected m p) (e .choices) o; rest = sym same ∙ whole p i b g };
       }
 
   -- "Else: the new low."
@@ -168,8 +174,8 @@ module _ {q : code-problem.Problem} {start f : code.Found} {low width : ℕ} (h 
         left = omega (arith, h .left, next);
         sized = h .sized;
         reached = λ p i b g.
-            let o = middle-choices p i in
-            let same = step4-short (λ m. choices m p) (totalNet (unitsOf p)) (100000000 * p .demand) j low (r p i b g .best) (h .last ∷ h .before) (omega (arith, o .net, target-is p i)) in
+            let o = middle-taken p i in
+            let same = step4-short (λ m. selected m p) (totalNet (unitsOf p)) (target p) j low (r p i b g .best) (h .last ∷ h .before) (omega (arith, o .net, target-is p i)) in
             let moved : step p j (low + width / 2) (r p i b g .best) ((low + 2 ^ j) ∷ h .last ∷ h .before) ≡ halved p b = rw halfway (sym same ∙ whole p i b g) in
             record { best = r p i b g .best; holds = noted-holds p i b g (r p i b g .best) (f .best) (r p i b g .holds .best); rest = moved };
       }

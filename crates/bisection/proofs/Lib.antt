@@ -3,4 +3,3 @@ pub mod Halving
 pub mod Searching
 pub mod Stating
 pub mod Endings
-pub mod TableOfCalls

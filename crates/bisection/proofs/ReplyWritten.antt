@@ -5,11 +5,12 @@ use mathlib.Core.List.{List}
 use lib.ListN.{length, take}
 use lib.Seq.{length-take-le}
 use Rattle.fields.specs.Field.{written, bytesOfEach}
-use Rattle.rules.specs.Calls.{over, replyBytes}
-use Rattle.rules.proofs.Pieces.{length-each-bytes}
-use Rattle.rules.proofs.ReplyBytes.{length-reply}
-use Rattle.rules.proofs.Front.{lent, givenBack, front-none, front-field, front-tail, front-over}
-use Rattle.bisection.specs.Held.{replyHeld}
+use Rattle.rules.specs.Lists.{over}
+use Rattle.rules.specs.Calls.{replyBytes}
+use Rattle.rules.proofs.Encoding.Pieces.{length-each-bytes}
+use Rattle.rules.proofs.Encoding.ReplyBytes.{length-reply}
+use Rattle.rules.proofs.Encoding.Front.{lent, givenBack, front-none, front-field, front-tail, front-over}
+use Rattle.bisection.specs.ReplyHeld.{replyHeld}
 use Rattle.bisection.specs.declared.reply.Reply as code
 
 module _ (s₀ : List ℕ) (n : ℕ) (r : code.Reply) (few : n ≤ length (r .outputs)) where

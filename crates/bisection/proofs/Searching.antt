@@ -6,24 +6,25 @@ use mathlib.Core.Bool.{cond}
 use mathlib.Core.List.{List, [], _∷_}
 use lib.IntN.{ℤ}
 use lib.Signed.{leZ}
-use Rattle.rules.specs.Unit.{Problem, unitsOf, totalNet}
-use Rattle.rules.specs.Choice.{choices, dividedUp, floor, greatestAt, greatestFloor}
+use Rattle.rules.specs.Numbers.{dividedUp, greatestAt}
+use Rattle.rules.specs.Problem.{Problem, unitsOf, totalNet, target}
+use Rattle.rules.specs.Choice.{selected, floor, greatestFloor}
 use Rattle.rules.specs.Bisection.{Found, step3, search, greatestOutputs, found}
-use Rattle.rules.proofs.Steps.{step3-short, step3-equal, step3-covers, search-covers, search-short}
+use Rattle.rules.proofs.Economics.Steps.{step3-short, step3-equal, step3-covers, search-covers, search-short}
 use Rattle.pricing.specs.declared.Problem as code-problem
 use Rattle.pricing.specs.declared.Allocation as code-allocation
 use Rattle.pricing.specs.declared.Evaluation as code-evaluation
 use Rattle.pricing.specs.Totals.{HoldsProblem, HoldsOutputs, Sized, Evaluates}
 use Rattle.bisection.specs.declared.search.Found as code
 use Rattle.bisection.specs.Search.{HoldsFound, Halves, Searches}
-use Rattle.bisection.proofs.Halving.{floor-more}
+use Rattle.bisection.proofs.Halving.{floor-more, taken}
 
 module _ {q : code-problem.Problem} {e₀ : code-evaluation.Evaluation} (v₀ : Evaluates q 0 e₀) where
   abbrev floor₀ : ℤ
   floor₀ = dividedUp (e₀ .dual) 100000
 
   -- the demand that a problem asks for, as the code computes it
-  target-is : (p : Problem) → HoldsProblem q p → 100000000 * p .demand ≡ 100000000 * q .demand
+  target-is : (p : Problem) → HoldsProblem q p → target p ≡ 100000000 * q .demand
   target-is p i = ap (λ (d : ℕ). 100000000 * d) (i .demand)
 
   floor₀-is : (p : Problem) → HoldsProblem q p → floor₀ ≡ greatestFloor p (0 ∷ [])
@@ -38,8 +39,8 @@ module _ {q : code-problem.Problem} {e₀ : code-evaluation.Evaluation} (v₀ : 
         sized = v₀ .sized;
         few = omega arith;
         held = λ p i _.
-            let o = v₀ .choices p i in
-            let same = search-covers (λ m. choices m p) (totalNet (unitsOf p)) (100000000 * p .demand) (greatestOutputs p) (omega (arith, o .net, target-is p i)) in
+            let o = taken v₀ p i in
+            let same = search-covers (λ m. selected m p) (totalNet (unitsOf p)) (target p) (greatestOutputs p) (omega (arith, o .net, target-is p i)) in
             subst (λ (x : Found (List ℕ)). HoldsFound p x (record { best = e₀ .choices; floor = floor₀; evaluations = 1 })) (sym same)
             (record { best = o; floor = floor₀-is p i; evaluations = refl });
       }
@@ -49,8 +50,8 @@ module _ {q : code-problem.Problem} {e₀ : code-evaluation.Evaluation} (v₀ : 
     floor₁ = cond (leZ (dividedUp (e .dual) 100000) floor₀) floor₀ (dividedUp (e .dual) 100000)
 
     module _ (p : Problem) (i : HoldsProblem q p) where
-      goes-on : search (λ m. choices m p) (totalNet (unitsOf p)) (100000000 * p .demand) (greatestOutputs p) ≡ step3 (λ m. choices m p) (totalNet (unitsOf p)) (100000000 * p .demand) (greatestOutputs p)
-      goes-on = search-short (λ m. choices m p) (totalNet (unitsOf p)) (100000000 * p .demand) (greatestOutputs p) (omega (arith, v₀ .choices p i .net, target-is p i))
+      goes-on : search (λ m. selected m p) (totalNet (unitsOf p)) (target p) (greatestOutputs p) ≡ step3 (λ m. selected m p) (totalNet (unitsOf p)) (target p) (greatestOutputs p)
+      goes-on = search-short (λ m. selected m p) (totalNet (unitsOf p)) (target p) (greatestOutputs p) (omega (arith, taken v₀ p i .net, target-is p i))
 
       -- after two evaluations, whichever is the best
       twice : (x : List ℕ) (a : code-allocation.Allocation) → HoldsOutputs p x a → HoldsFound p (record { best = x; evaluated = 65536 ∷ 0 ∷ [] }) (record { best = a; floor = floor₁; evaluations = 2 })
@@ -64,7 +65,7 @@ module _ {q : code-problem.Problem} {e₀ : code-evaluation.Evaluation} (v₀ : 
           sized = z;
           few = omega arith;
           held = λ p i g.
-              let same = goes-on p i ∙ step3-short (λ m. choices m p) (totalNet (unitsOf p)) (100000000 * p .demand) (greatestOutputs p) (omega (arith, v .choices p i .net, target-is p i)) in
+              let same = goes-on p i ∙ step3-short (λ m. selected m p) (totalNet (unitsOf p)) (target p) (greatestOutputs p) (omega (arith, taken v p i .net, target-is p i)) in
               subst (λ (x : Found (List ℕ)). HoldsFound p x (record { best = first; floor = floor₁; evaluations = 2 })) (sym same) (twice p i (greatestOutputs p) first g);
         }
 
@@ -76,9 +77,9 @@ module _ {q : code-problem.Problem} {e₀ : code-evaluation.Evaluation} (v₀ : 
           sized = v .sized;
           few = omega arith;
           held = λ p i _.
-              let o = v .choices p i in
-              let same = goes-on p i ∙ step3-equal (λ m. choices m p) (totalNet (unitsOf p)) (100000000 * p .demand) (greatestOutputs p) (omega (arith, o .net, target-is p i)) in
-              subst (λ (x : Found (List ℕ)). HoldsFound p x (record { best = e .choices; floor = floor₁; evaluations = 2 })) (sym same) (twice p i (choices 65536 p) (e .choices) o);
+              let o = taken v p i in
+              let same = goes-on p i ∙ step3-equal (λ m. selected m p) (totalNet (unitsOf p)) (target p) (greatestOutputs p) (omega (arith, o .net, target-is p i)) in
+              subst (λ (x : Found (List ℕ)). HoldsFound p x (record { best = e .choices; floor = floor₁; evaluations = 2 })) (sym same) (twice p i (selected 65536 p) (e .choices) o);
         }
 
     -- else step 4
@@ -89,7 +90,7 @@ module _ {q : code-problem.Problem} {e₀ : code-evaluation.Evaluation} (v₀ : 
           sized = h .sized;
           few = h .few;
           held = λ p i _.
-              let o = v .choices p i in
-              let same = goes-on p i ∙ step3-covers (λ m. choices m p) (totalNet (unitsOf p)) (100000000 * p .demand) (greatestOutputs p) (omega (arith, o .net, target-is p i)) in
-              subst (λ (x : Found (List ℕ)). HoldsFound p x r) (sym same) (h .held p i (choices 65536 p) (twice p i (choices 65536 p) (e .choices) o));
+              let o = taken v p i in
+              let same = goes-on p i ∙ step3-covers (λ m. selected m p) (totalNet (unitsOf p)) (target p) (greatestOutputs p) (omega (arith, o .net, target-is p i)) in
+              subst (λ (x : Found (List ℕ)). HoldsFound p x r) (sym same) (h .held p i (selected 65536 p) (twice p i (selected 65536 p) (e .choices) o));
         }

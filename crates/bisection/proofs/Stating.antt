@@ -9,10 +9,10 @@ use lib.Signed.{nonNeg}
 use mir.Syntax.{w64}
 use mir.Val.{SFits, toZ, ofZ}
 use mir.Facts.{toZ-ofZ}
-use Rattle.rules.specs.Unit.{Problem}
-use Rattle.rules.specs.Bisection.{Found, natural, replyOf}
+use Rattle.rules.specs.Numbers.{natural}
+use Rattle.rules.specs.Bisection.{replyOf}
 use Rattle.rules.proofs.Integers.{up, dn, Is, itself, is-pos, is-minus, cast, fits, kept, not-negative, size-is, up-is, one-zero, ints}
-use Rattle.rules.proofs.Solution.{natural-up}
+use Rattle.rules.proofs.Economics.Solution.{natural-up}
 use Rattle.pricing.specs.declared.Problem as code-problem
 use Rattle.bisection.specs.declared.reply.Reply as code-reply
 use Rattle.bisection.specs.declared.search.Found as code-found

@@ -1,3 +1,3 @@
-pub mod Held
+pub mod ReplyHeld
 pub mod Search
 pub mod Solved

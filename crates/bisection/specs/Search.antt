@@ -1,10 +1,10 @@
 -- What the search holds: for every problem that a decoded one stands for, the best allocation, the greatest floor and the number of the evaluations that document 01's steps make.
-use Prim.Native.Nat.{ℕ, _*_, _≤_}
+use Prim.Native.Nat.{ℕ, _≤_}
 use mathlib.Core.Path.{_≡_}
 use mathlib.Core.List.{List, [], _∷_}
 use lib.ListN.{length}
-use Rattle.rules.specs.Unit.{Problem, unitsOf, totalNet}
-use Rattle.rules.specs.Choice.{choices, greatestFloor}
+use Rattle.rules.specs.Problem.{Problem, unitsOf, totalNet, target}
+use Rattle.rules.specs.Choice.{selected, greatestFloor}
 use Rattle.rules.specs.Bisection.{Found, step4, greatestOutputs, found}
 use Rattle.pricing.specs.declared.Problem as code-problem
 use Rattle.pricing.specs.declared.Allocation as code-allocation
@@ -30,7 +30,7 @@ pub record Started (q : code-problem.Problem) (start : code.Found) : Type 0 wher
 
 -- step 4 of a problem, from its start
 abbrev pub halved : Problem → List ℕ → Found (List ℕ)
-halved p b = step4 (λ m. choices m p) (totalNet (unitsOf p)) (100000000 * p .demand) 16 0 b (65536 ∷ 0 ∷ [])
+halved p b = step4 (λ m. selected m p) (totalNet (unitsOf p)) (target p) 16 0 b (65536 ∷ 0 ∷ [])
 
 pub record Halves (q : code-problem.Problem) (start r : code.Found) : Type 0 where
   pub sized : Sized (q .count) (r .best)

@@ -3,8 +3,9 @@ ghost use mathlib.Core.Path.{_≡_};
 ghost use Prim.Native.Nat.{_+_, _*_, _≤_};
 ghost use lib.ListN.{length, take};
 ghost use Rattle.fields.specs.Field.{bytesOfEach};
-ghost use Rattle.rules.specs.Calls.{over, replyBytes};
-ghost use Rattle.bisection.specs.Held.{replyHeld};
+ghost use Rattle.rules.specs.Lists.{over};
+ghost use Rattle.rules.specs.Calls.{replyBytes};
+ghost use Rattle.bisection.specs.ReplyHeld.{replyHeld};
 
 // What the reply states, besides the number of units.
 pub struct Reply {

@@ -12,7 +12,7 @@ use Rattle.rules.specs.Refusal.{bodyVerdict, unitVerdict}
 use Rattle.rules.specs.declared.Refusal.the-variants.{ZoneCountInvalid}
 use Rattle.rules.specs.declared.Verdict.{Verdict}
 use Rattle.rules.specs.declared.Verdict.the-variants.{Accepted, Refused}
-use Rattle.rules.proofs.Lists.{accepts}
+use Rattle.rules.proofs.Encoding.Body.{sound-body}
 use Rattle.casefile.specs.Required.{BodyFits}
 use Rattle.casefile.proofs.Head.{or-true}
 
@@ -29,10 +29,8 @@ module _ (s : List ℕ) where
 
   -- an accepted body can be read
   pub body-accepted : bodyVerdict s ≡ Accepted → BodyFits s
-  unfolding bodyVerdict unitOfBody
-  body-accepted e =
-      let ((zones, size), unit) = simp accepts at e in
-      record { zones = zones; size = size }
+  unfolding unitOfBody
+  body-accepted e = let b = sound-body s e in record { zones = b .zones; size = b .size }
 
 -- the verdict on the body that entry i names
 abbrev pub verdictAt : List ℕ → ℕ → Verdict

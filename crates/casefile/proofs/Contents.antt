@@ -1,6 +1,5 @@
 -- The contents: what the loop over the entries keeps, and that accepted entries name bodies inside the file.
-use Prim.Native.Nat.{ℕ, zero, suc, _+_, _*_, _-_, _≤_, _<_}
-use native.Mathlib.Nat.{add-suc, add-zero}
+use Prim.Native.Nat.{ℕ, _+_, _*_, _≤_, _<_}
 use native.Mathlib.Decide.{decLt}
 use native.Mathlib.Numerals.{add-one}
 use native.Mathlib.Omega.{arith}
@@ -17,9 +16,9 @@ use Rattle.rules.specs.Layout.{count, offset, size, body}
 use Rattle.rules.specs.Refusal.{_refuses_, start, legalSize, entryFits, contentsVerdict}
 use Rattle.rules.specs.declared.Refusal.the-variants.{ContentsInvalid}
 use Rattle.rules.specs.declared.Verdict.the-variants.{Accepted}
-use Rattle.rules.proofs.Lists.{each-every, all-every, accepts}
-use Rattle.casefile.specs.Required.{BodyInside}
 use Rattle.rules.proofs.Each.{rest-ends, rest-more}
+use Rattle.rules.proofs.Encoding.SoundFile.{SoundContents, sound-contents, body-within}
+use Rattle.casefile.specs.Required.{BodyInside}
 
 -- ---- legal lengths
 
@@ -95,31 +94,11 @@ module _ (file : List ℕ) (n : ℕ) where
 
 -- ---- accepted contents
 
-record Fitting (file : List ℕ) (i : ℕ) : Type 0 where
-  follows : offset file i ≡ start file i
-  long : 26 ≤ size file i
+pub inside : {file : List ℕ} → SoundContents file → (i : ℕ) → i < count file → BodyInside file i
+inside {file} s i h = record { entry = omega (arith, s .room); within = body-within s i h; long = legal-long (size file i) (s .sizes i h) }
 
-module _ (file : List ℕ) (accepted : contentsVerdict file ≡ Accepted) where
-  fitting : (i : ℕ) → i < count file → Fitting file i
-  unfolding contentsVerdict
-  fitting i h =
-      let ((room, fit), ends) = simp accepts at accepted in
-      let every = all-every (entryFits file) (each (count file) (λ k. k)) .0 fit in
-      let (follows, legal) = simp accepts at (each-every (λ k. entryFits file k ≡ true) (count file) (λ k. k) every i h) in
-      record { follows = follows; long = legal-long (size file i) legal }
-
-  -- a body starts where an earlier one ends, or later
-  climbs : (i k : ℕ) → i + k ≤ count file → start file i ≤ start file (i + k)
-  climbs i zero h = rw add-zero (omega arith)
-  climbs i (suc k) h = rw add-suc (omega (arith, climbs i k (omega arith), fitting (i + k) (omega arith) .follows))
-
-  pub body-inside : (i : ℕ) → i < count file → BodyInside file i
-  unfolding contentsVerdict
-  body-inside i h =
-      let ((room, fit), ends) = simp accepts at accepted in
-      let e : suc i + (count file - suc i) ≡ count file = omega arith in
-      let below : start file (suc i) ≤ start file (count file) = rw e at (climbs (suc i) (count file - suc i) (omega arith)) in
-      record { entry = omega arith; within = omega arith; long = fitting i h .long }
+pub body-inside : (file : List ℕ) → contentsVerdict file ≡ Accepted → (i : ℕ) → i < count file → BodyInside file i
+body-inside file accepted = inside (sound-contents file .0 accepted)
 
 pub body-length : {file : List ℕ} {i : ℕ} → BodyInside file i → length (body file i) ≡ size file i
 body-length {file} {i} b =

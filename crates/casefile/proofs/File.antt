@@ -1,17 +1,16 @@
 -- The verdict on a file, place by place, and what an accepted file is.
 use Prim.Native.Nat.{ℕ, _<_}
-use mathlib.Core.Path.{_≡_, sym, _∙_}
+use mathlib.Core.Path.{_≡_, refl, sym, _∙_}
 use mathlib.Core.List.{List}
 use Rattle.rules.specs.Lists.{each}
 use Rattle.rules.specs.Layout.{count, body, unitAt}
 use Rattle.rules.specs.Refusal.{inOrder, headVerdict, contentsVerdict, unitVerdict, bodyVerdict, fileVerdict}
 use Rattle.rules.specs.declared.Refusal.{Refusal}
 use Rattle.rules.specs.declared.Verdict.the-variants.{Accepted, Refused}
-use Rattle.rules.proofs.Lists.{accepts, in-order-accepted, each-every}
+use Rattle.rules.proofs.Encoding.SoundFile.{sound-file}
 use Rattle.casefile.specs.Required.{BodyInside, BodyFits, HeadRead}
-use Rattle.casefile.proofs.Head.{head-read}
 use Rattle.casefile.proofs.Body.{verdictAt, body-fits, body-accepted}
-use Rattle.casefile.proofs.Contents.{body-inside}
+use Rattle.casefile.proofs.Contents.{inside}
 
 module _ (file : List ℕ) where
   pub file-head : {r : Refusal} → headVerdict file ≡ Refused r → fileVerdict file ≡ Refused r
@@ -31,19 +30,14 @@ module _ (file : List ℕ) where
 
 module _ (file : List ℕ) (accepted : fileVerdict file ≡ Accepted) where
   pub accepted-head : HeadRead file (count file)
-  unfolding fileVerdict
-  accepted-head = let (head, (contents, bodies)) = simp accepts at accepted in head-read file head
+  accepted-head = let s = sound-file file .0 accepted .head in record { long = s .long; units = refl; most = s .count-greatest }
 
   module _ (i : ℕ) (h : i < count file) where
     pub accepted-inside : BodyInside file i
-    unfolding fileVerdict
-    accepted-inside = let (head, (contents, bodies)) = simp accepts at accepted in body-inside file contents i h
+    accepted-inside = inside (sound-file file .0 accepted .contents) i h
 
-    pub accepted-body : bodyVerdict (body file i) ≡ Accepted
-    unfolding fileVerdict
-    accepted-body =
-        let (head, (contents, bodies)) = simp accepts at accepted in
-        each-every (λ v. v ≡ Accepted) (count file) (verdictAt file) (in-order-accepted (each (count file) (verdictAt file)) .0 bodies) i h
+    accepted-body : bodyVerdict (body file i) ≡ Accepted
+    accepted-body = sound-file file .0 accepted .bodies i h
 
     pub accepted-fits : BodyFits (body file i)
     accepted-fits = body-accepted (body file i) accepted-body

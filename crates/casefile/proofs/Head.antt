@@ -10,7 +10,7 @@ use Rattle.rules.specs.Layout.{edition, count, demand}
 use Rattle.rules.specs.Refusal.{headVerdict}
 use Rattle.rules.specs.declared.Refusal.the-variants.{FileTooShort, EditionUnknown, CountOutOfRange, DemandOutOfRange}
 use Rattle.rules.specs.declared.Verdict.the-variants.{Accepted, Refused}
-use Rattle.rules.proofs.Lists.{accepts}
+use Rattle.rules.proofs.Encoding.SoundFile.{sound-head}
 use Rattle.casefile.specs.Required.{HeadRead}
 
 -- one of two tests holds
@@ -63,7 +63,4 @@ module _ (file : List ℕ) where
 
   -- the head of an accepted file can be read
   pub head-read : headVerdict file ≡ Accepted → HeadRead file (count file)
-  unfolding headVerdict
-  head-read e =
-      let (long, (known, ((some, most), small))) = simp accepts at e in
-      record { long = long; units = refl; most = most }
+  head-read e = let s = sound-head file .0 e in record { long = s .long; units = refl; most = s .count-greatest }

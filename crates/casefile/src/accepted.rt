@@ -3,7 +3,7 @@ ghost use mathlib.Core.Path.{_≡_};
 ghost use Prim.Native.Nat.{_<_};
 ghost use Rattle.rules.specs.Layout.{count, demand, unitAt};
 ghost use Rattle.rules.specs.Refusal.{fileVerdict};
-ghost use Rattle.unit.specs.Held.{unitHeld};
+ghost use Rattle.unit.specs.UnitHeld.{unitHeld};
 use crate::checking::body_of;
 use crate::reading::read_body;
 use rules::Verdict;

@@ -5,7 +5,7 @@ ghost use lib.ListN.{length};
 ghost use Rattle.fields.specs.Field.{field};
 ghost use Rattle.rules.specs.Lists.{each};
 ghost use Rattle.rules.specs.Layout.{edgeOfBody, unitOfBody, bodyLength};
-ghost use Rattle.unit.specs.Held.{unitHeld};
+ghost use Rattle.unit.specs.UnitHeld.{unitHeld};
 ghost use Rattle.casefile.specs.Required.{BodyFits};
 use unit::Unit;
 

@@ -9,12 +9,13 @@ use lib.ListN.{length, getD, drop}
 use lib.Seq.{getD-take, getD-drop}
 use Rattle.fields.specs.Field.{bytes}
 use Rattle.rules.specs.Lists.{each}
-use Rattle.rules.specs.Layout.{Unit, unitOfRow, rowAt, unitInRow, bodyLength, bodyOfUnit, contentsFrom, bodiesOf, bodiesLength, fileOf}
+use Rattle.rules.specs.Unit.{Unit}
+use Rattle.rules.specs.Layout.{unitOfRow, rowAt, unitInRow, bodyLength, bodyOfUnit, contentsFrom, bodiesOf, bodiesLength, fileOf}
 use Rattle.rules.proofs.Lists.{length-each, each-last, every-each}
 use Rattle.rules.proofs.Sound.{sound}
-use Rattle.rules.proofs.Rows.{length-rowAt, row-eight}
-use Rattle.rules.proofs.Body.{Packable}
-use Rattle.rules.proofs.RoundTrip.{length-file}
+use Rattle.rules.proofs.Encoding.Rows.{length-rowAt, row-eight}
+use Rattle.rules.proofs.Encoding.Body.{Packable}
+use Rattle.rules.proofs.Encoding.RoundTrip.{length-file}
 use Rattle.packing.specs.Required.{RowsSound}
 
 pub row-zones : (rows : List ℕ) (i : ℕ) → unitInRow rows i .zoneCount ≡ getD rows (19 * i + 10) 0

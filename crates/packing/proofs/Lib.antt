@@ -1,4 +1,4 @@
 pub mod Edges
 pub mod Lengths
 pub mod Written
-pub mod Cases
+pub mod Packed

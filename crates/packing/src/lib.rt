@@ -6,11 +6,11 @@ ghost use Prim.Native.Nat.{_+_, _*_, _%_, _≤_};
 ghost use lib.Dec.{ltb, eqb};
 ghost use lib.ListN.{length};
 ghost use Rattle.fields.specs.Field.{bytes, bytesOfEach};
-ghost use Rattle.rules.specs.Lists.{each};
+ghost use Rattle.rules.specs.Lists.{each, over};
 ghost use Rattle.rules.specs.Layout.{unitInRow, bodyLength, bodyOfUnit, contentsFrom, bodiesOf, bodiesLength, fileOf};
 ghost use Rattle.rules.specs.Refusal.{inOrder, unitVerdict};
-ghost use Rattle.rules.specs.Calls.{over, packed};
-ghost use Rattle.unit.specs.Held.{unitHeld};
+ghost use Rattle.rules.specs.Calls.{packed};
+ghost use Rattle.unit.specs.UnitHeld.{unitHeld};
 ghost use Rattle.packing.specs.Required.{RowsSound, WordsFit};
 
 mod reading;

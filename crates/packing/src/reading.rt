@@ -3,7 +3,7 @@ ghost use mathlib.Core.Path.{_≡_};
 ghost use Prim.Native.Nat.{_+_, _*_, _≤_};
 ghost use lib.ListN.{length, take, drop};
 ghost use Rattle.rules.specs.Layout.{unitOfRow, unitInRow};
-ghost use Rattle.unit.specs.Held.{unitHeld};
+ghost use Rattle.unit.specs.UnitHeld.{unitHeld};
 use unit::Unit;
 
 // The edges of a row.

@@ -6,8 +6,9 @@ use mathlib.Core.List.{List, [], _∷_}
 use lib.IntN.{ℤ}
 use lib.ListN.{length, set}
 use borrow.Author.Tests.{lt-ltb, le-ltb}
+use Rattle.rules.specs.Lists.{over}
 use Rattle.rules.specs.Refusal.{numberOf}
-use Rattle.rules.specs.Calls.{DispatchResult, PackResult, over, dispatched, priceVerdict, priceEnds, priced, packed, unpackVerdict, unpackEnds, unpacked, numberOfDispatched, numberOfPacked, numberOfPriced, answersOfPriced, numberOfUnpacked, answersOfUnpacked, panelDispatched, panelPacked, panelPriced, panelUnpacked}
+use Rattle.rules.specs.Calls.{DispatchResult, PackResult, dispatched, priceVerdict, priceEnds, priced, packed, unpackVerdict, unpackEnds, unpacked, numberOfDispatched, numberOfPacked, numberOfPriced, answersOfPriced, numberOfUnpacked, answersOfUnpacked, panelDispatched, panelPacked, panelPriced, panelUnpacked}
 use Rattle.rules.specs.declared.Refusal.the-variants.{BufferTooShort, MultiplierOutOfRange}
 use Rattle.rules.specs.declared.Dispatched.{Dispatched}
 use Rattle.rules.specs.declared.Packed.{Packed}

@@ -6,15 +6,15 @@ use native.Mathlib.Numerals.{add-one}
 use native.Mathlib.Omega.{arith}
 use lib.ListN.{length, getD, take, drop, set, replicate, length-set, drop-of-length-le}
 use lib.Seq.{drop-cons, take-suc-set, getD-set-other}
-use Rattle.rules.specs.Layout.{Unit}
-use Rattle.rules.specs.Unit.{cost, net, totalCost, totalNet, Offer, Problem, unitsOf}
-use Rattle.rules.proofs.Quantities.{cost-range, net-range}
+use Rattle.rules.specs.Unit.{Unit, cost, net}
+use Rattle.rules.specs.Problem.{totalCost, totalNet, Offer, Problem, unitsOf}
+use Rattle.rules.proofs.Economics.Quantities.{cost-range, net-range}
 use Rattle.pricing.specs.declared.Offer as code-offer
 use Rattle.pricing.specs.declared.Allocation as code-allocation
-use Rattle.pricing.specs.Held.{unitOf, Coefficients, Holds}
+use Rattle.pricing.specs.OfferHeld.{unitOf, Coefficients, Holds}
 use Rattle.pricing.specs.Totals.{nothingOffered, HoldsOutputs, Sized}
 use Rattle.pricing.proofs.Range.{sound}
-use Rattle.pricing.proofs.Held.{cost-held, net-held}
+use Rattle.pricing.proofs.OfferHeld.{cost-held, net-held}
 
 -- ---- nothing allocated, and one unit more
 

@@ -1,26 +1,25 @@
 -- The choice in a region, in the regions looked at so far, and in all of them, which is the choice of the offer that the struct stands for.
 use mathlib.Core.Path.{_≡_, sym, ap, subst, fun-ext}
 use mathlib.Core.Bool.{true, false}
-use mathlib.Core.List.{List, [], _∷_}
 use mathlib.Core.Logic.{_⊎_, inl, inr}
 use Prim.Native.Nat.{ℕ, _+_, _*_, _≤_, _<_}
 use native.Mathlib.Decide.{ℕ-discrete}
 use native.Mathlib.Omega.{arith}
 use lib.IntN.{ℤ}
 use lib.Signed.{leZ}
-use Rattle.rules.specs.Unit.{Offer}
-use Rattle.rules.specs.Choice.{pricedCost, choiceOf, choice}
+use Rattle.rules.specs.Problem.{Offer}
+use Rattle.rules.specs.Choice.{pricedCost, choice}
 use Rattle.rules.proofs.Integers.{Is, at-most, under, when-le, when-gt}
-use Rattle.rules.proofs.Quantities.{cost-is, priced-is, net-whole}
-use Rattle.rules.proofs.Chosen.{Chosen, Among, Ascends, unique, alike, single, first, second, scanned}
+use Rattle.rules.proofs.Economics.Quantities.{cost-is, priced-is, net-whole}
+use Rattle.rules.proofs.Economics.Chosen.{Chosen, Among, some-among, unique, alike, single, first, second, scanned}
 use Rattle.pricing.specs.declared.Offer as code-offer
 use Rattle.pricing.specs.Turn.{Turn}
 use Rattle.pricing.specs.Regions.{Between, Within, low, high}
-use Rattle.pricing.specs.Held.{unitOf, Coefficients, Bounded, Holds}
+use Rattle.pricing.specs.OfferHeld.{unitOf, Coefficients, Bounded, Holds}
 use Rattle.pricing.specs.Choosing.{Chooses}
 use Rattle.pricing.proofs.Range.{sound}
 use Rattle.pricing.proofs.Quadratic.{Quadratic, turn-chosen}
-use Rattle.pricing.proofs.Held.{priced-held}
+use Rattle.pricing.proofs.OfferHeld.{priced-held}
 
 -- ---- one region
 
@@ -107,13 +106,9 @@ module _ {o : code-offer.Offer} (s : Bounded o) (m : ℕ) where
       record { output = omega (arith, w .inside, s .limit (w .region) (w .below)); held = held }
     where
       held : (f : Offer) → Holds o f → r ≡ choice m f
-      held f e = by (f .outputs) (e .ascends) of-list
+      held f e = unique of-list (scanned (pricedCost m (f .unit)) (f .outputs) (e .ascends) (some-among r (f .outputs) (of-list .candidate)))
         where
           of-list : Chosen (pricedCost m (f .unit)) (λ p. Among p (f .outputs)) r
           of-list =
               subst (λ (g : ℕ → ℤ). Chosen g (λ p. Among p (f .outputs)) r) (sym (fun-ext (λ p. priced-held e p m)))
               (alike (e .offered) (e .inside) (h .chosen))
-
-          by : (ps : List ℕ) → Ascends ps → Chosen (pricedCost m (f .unit)) (λ p. Among p ps) r → r ≡ choiceOf (pricedCost m (f .unit)) ps
-          by [] a d = absurd (d .candidate)
-          by (p ∷ ps) a d = unique d (scanned (pricedCost m (f .unit)) p ps a)

@@ -10,19 +10,19 @@ use lib.Dec.{eqb}
 use lib.ListN.{length, getD, drop, replicate, getD-replicate, drop-of-length-le}
 use mir.Val.{boolByte}
 use borrow.Author.Tests.{eqb-true, eq-eqb}
-use Rattle.rules.specs.Layout.{Unit, Zone, zoneAt, zones}
+use Rattle.rules.specs.Unit.{Unit, Zone, zoneAt, zones, permitted}
 use Rattle.rules.specs.Refusal.{zonesAscend}
-use Rattle.rules.specs.Unit.{permitted, offer}
+use Rattle.rules.specs.Problem.{offer}
 use Rattle.rules.proofs.Lists.{length-each}
-use Rattle.rules.proofs.Sound.{Sound, ascending, zone-between}
-use Rattle.rules.proofs.Outputs.{stands-permitted, runs-permitted, permitted-greatest, outputs-ascend, offered-permitted, permitted-offered}
+use Rattle.rules.proofs.Sound.{Sound, ascending, zone-between, zone-parts}
+use Rattle.rules.proofs.Economics.Outputs.{stands-permitted, runs-permitted, permitted-greatest, outputs-ascend, offered-permitted, permitted-offered}
 use Rattle.pricing.specs.declared.Offer as code-offer
 use Rattle.pricing.specs.declared.Window as code-window
 use Rattle.pricing.specs.Regions.{Between, Within, high}
-use Rattle.pricing.specs.Held.{Bounded}
+use Rattle.pricing.specs.OfferHeld.{Bounded}
 use Rattle.pricing.specs.Offering.{Windowed, Regions}
 use Rattle.pricing.proofs.Pushing.{Pushable, Pushed, pushed, push, at-most-one, one-true}
-use Rattle.pricing.proofs.Zones.{outside, zone-parts, before-zone, after-zone, within-zone, next-zone}
+use Rattle.pricing.proofs.Zones.{outside, before-zone, after-zone, within-zone, next-zone}
 
 -- o has the permitted outputs below `from`, where zone k − 1 ends or the running outputs begin
 pub record Dividing (u : Unit) (o : code-offer.Offer) (from k : ℕ) : Type 0 where

@@ -4,10 +4,10 @@ use Prim.Native.Nat.{ℕ, _+_, _*_, _≤_, _<_}
 use native.Mathlib.Nat.{mul-le-mul}
 use native.Mathlib.Omega.{arith}
 use lib.IntN.{ℤ}
-use Rattle.rules.specs.Unit.{Problem}
+use Rattle.rules.specs.Problem.{Problem}
 use Rattle.rules.specs.Choice.{choice, choices, dualValue}
 use Rattle.rules.proofs.Integers.{Is, same}
-use Rattle.rules.proofs.Totals.{dual-is}
+use Rattle.rules.proofs.Economics.Allocations.{dual-is}
 use Rattle.pricing.specs.declared.Problem as code-problem
 use Rattle.pricing.specs.declared.Allocation as code-allocation
 use Rattle.pricing.specs.Choosing.{Chooses}

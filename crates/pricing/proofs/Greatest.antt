@@ -3,7 +3,7 @@ use mathlib.Core.Path.{_≡_, subst}
 use Prim.Native.Nat.{ℕ, _+_, _≤_, _<_}
 use native.Mathlib.Omega.{arith}
 use Rattle.rules.specs.Lists.{greatest}
-use Rattle.rules.specs.Unit.{Offer, Problem}
+use Rattle.rules.specs.Problem.{Offer, Problem}
 use Rattle.rules.specs.Bisection.{greatestOutputs}
 use Rattle.pricing.specs.declared.Problem as code-problem
 use Rattle.pricing.specs.declared.Allocation as code-allocation

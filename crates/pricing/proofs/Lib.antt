@@ -2,7 +2,7 @@ pub mod Turn
 pub mod Range
 pub mod Signed
 pub mod Quadratic
-pub mod Held
+pub mod OfferHeld
 pub mod Choosing
 pub mod Floor
 pub mod Allocating

@@ -12,13 +12,13 @@ use lib.ListN.{length, getD, drop, drop-of-length-le}
 use lib.Seq.{drop-cons}
 use borrow.Author.Tests.{lt-ltb}
 use Rattle.rules.specs.Lists.{all, greatest}
-use Rattle.rules.specs.Unit.{Offer, Problem}
-use Rattle.rules.proofs.Chosen.{Among, none-among}
-use Rattle.rules.proofs.Allocations.{at-most-greatest}
+use Rattle.rules.specs.Problem.{Offer, Problem}
+use Rattle.rules.proofs.Economics.Chosen.{Among, some-among, none-among}
+use Rattle.rules.proofs.Economics.Allocations.{at-most-greatest}
 use Rattle.pricing.specs.declared.Offer as code-offer
 use Rattle.pricing.specs.declared.Problem as code-problem
 use Rattle.pricing.specs.Regions.{Between, Within, low, high}
-use Rattle.pricing.specs.Held.{Bounded, Holds}
+use Rattle.pricing.specs.OfferHeld.{Bounded, Holds}
 use Rattle.pricing.specs.Totals.{nothingOffered, offerAt, HoldsProblem, GreatestOutput, Permits}
 
 -- ---- the greatest of some numbers
@@ -38,11 +38,7 @@ module _ {o : code-offer.Offer} {f : Offer} (h : Holds o f) where
   none-held e = none-among (f .outputs) (λ p i. let w = h .inside p i in omega (arith, w .below))
 
   some-held : 1 ≤ o .regions → Bounded o → 0 < length (f .outputs)
-  some-held l s = by (f .outputs) (h .offered (low o 0) (record { region = 0; below = l; inside = record { from = omega arith; to = s .order 0 l } }))
-    where
-      by : (ps : List ℕ) → Among (low o 0) ps → 0 < length ps
-      by [] i = absurd i
-      by (p ∷ ps) i = omega arith
+  some-held l s = some-among (low o 0) (f .outputs) (h .offered (low o 0) (record { region = 0; below = l; inside = record { from = omega arith; to = s .order 0 l } }))
 
 module _ {o : code-offer.Offer} (s : Bounded o) where
   pub greatest-none : o .regions ≡ 0 → GreatestOutput o 0

@@ -7,10 +7,9 @@ use lib.Dec.{leb}
 use lib.IntN.{ℤ}
 use borrow.Author.Tests.{lt-ltb, le-ltb}
 use Rattle.rules.specs.Refusal.{fileVerdict}
-use Rattle.rules.specs.Unit.{Problem}
-use Rattle.rules.specs.Choice.{choices}
+use Rattle.rules.specs.Problem.{Problem, problemIn}
 use Rattle.rules.specs.Bisection.{solvable}
-use Rattle.rules.specs.Calls.{problemIn, priceVerdict, priceEnds, priced}
+use Rattle.rules.specs.Calls.{caseVerdict, priceVerdict, priceEnds, priced}
 use Rattle.rules.specs.declared.Refusal.{Refusal}
 use Rattle.rules.specs.declared.Refusal.the-variants.{NoAllocation, MultiplierOutOfRange}
 use Rattle.rules.specs.declared.Verdict.the-variants.{Accepted, Refused}
@@ -38,11 +37,11 @@ module _ (file : List ℕ) {m : ℕ} where
 
   module _ (h : m ≤ 65536) where
     pub file-refused : {r : Refusal} → fileVerdict file ≡ Refused r → Priced.Refused r ≡ priced file m
-    unfolding priced priceVerdict priceEnds
+    unfolding priced priceVerdict caseVerdict priceEnds
     file-refused e = rw (le-ltb 65536 m h, e)
 
     pub file-accepted : fileVerdict file ≡ Accepted → pricedIn m (problemIn file) ≡ priced file m
-    unfolding priced priceVerdict priceEnds
+    unfolding priced priceVerdict caseVerdict priceEnds
     file-accepted e = rw (le-ltb 65536 m h, e) (by (solvable (problemIn file)) refl)
       where
         by : (t : Bool) → solvable (problemIn file) ≡ t → pricedIn m (problemIn file) ≡ priceEnds (cond (not (solvable (problemIn file))) (Refused NoAllocation) Accepted) file m

@@ -13,7 +13,7 @@ use mir.Val.{boolByte}
 use borrow.Author.Tests.{leb-true, le-leb}
 use Rattle.pricing.specs.declared.Offer as code-offer
 use Rattle.pricing.specs.Regions.{Between, Within, low, high}
-use Rattle.pricing.specs.Held.{Bounded}
+use Rattle.pricing.specs.OfferHeld.{Bounded}
 
 -- from..to may be put behind the regions of o
 pub record Pushable (o : code-offer.Offer) (from to : ℕ) : Type 0 where

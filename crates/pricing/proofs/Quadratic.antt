@@ -7,7 +7,7 @@ use native.Mathlib.Omega.{arith}
 use lib.IntN.{ℤ}
 use lib.Signed.{_≤ℤ_, ≤ℤ-refl}
 use Rattle.rules.proofs.Integers.{Is, up, dn, ints}
-use Rattle.rules.proofs.Chosen.{Chosen}
+use Rattle.rules.proofs.Economics.Chosen.{Chosen}
 use Rattle.pricing.specs.Turn.{Turn}
 use Rattle.pricing.specs.Regions.{Between}
 

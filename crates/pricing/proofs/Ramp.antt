@@ -6,7 +6,7 @@ use Prim.Native.Nat.{ℕ, _+_, _-_, _≤_, _<_}
 use native.Mathlib.Omega.{arith}
 use lib.Dec.{leb}
 use borrow.Author.Tests.{lt-ltb, le-ltb, leb-true, le-leb}
-use Rattle.rules.specs.Layout.{Unit}
+use Rattle.rules.specs.Unit.{Unit}
 use Rattle.rules.proofs.Lists.{and-true}
 use Rattle.pricing.specs.Offering.{Windowed}
 

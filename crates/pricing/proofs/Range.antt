@@ -3,12 +3,12 @@ use mathlib.Core.Path.{refl}
 use Prim.Native.Nat.{ℕ, _*_, _≤_}
 use native.Mathlib.Nat.{mul-le-mul}
 use native.Mathlib.Omega.{arith}
-use Rattle.rules.specs.Layout.{zones}
+use Rattle.rules.specs.Unit.{zones}
 use Rattle.rules.specs.Refusal.{zonesAscend}
 use Rattle.rules.proofs.Sound.{Sound}
-use Rattle.rules.proofs.Quantities.{Products, products}
+use Rattle.rules.proofs.Economics.Quantities.{Products, products}
 use Rattle.pricing.specs.declared.Offer.{Offer}
-use Rattle.pricing.specs.Held.{unitOf, Coefficients}
+use Rattle.pricing.specs.OfferHeld.{unitOf, Coefficients}
 
 -- the unit with the coefficients of an offer is a sound one
 pub sound : {o : Offer} → Coefficients o → Sound (unitOf o)

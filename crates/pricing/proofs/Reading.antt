@@ -7,11 +7,13 @@ use native.Mathlib.Omega.{arith}
 use lib.ListN.{length, getD, set, length-set, length-map}
 use lib.Seq.{getD-set-same, getD-set-other}
 use Rattle.rules.specs.Lists.{each}
-use Rattle.rules.specs.Layout.{Unit, count, demand, unitAt, caseOf}
-use Rattle.rules.specs.Refusal.{headVerdict, fileVerdict}
-use Rattle.rules.specs.Unit.{Offer, offer, problemOf}
+use Rattle.rules.specs.Unit.{Unit}
+use Rattle.rules.specs.Layout.{count, demand, unitAt, caseOf}
+use Rattle.rules.specs.Refusal.{fileVerdict}
+use Rattle.rules.specs.Problem.{offer, problemOf}
 use Rattle.rules.specs.declared.Verdict.the-variants.{Accepted}
-use Rattle.rules.proofs.Lists.{accepts, length-each, getD-each}
+use Rattle.rules.proofs.Lists.{length-each, getD-each}
+use Rattle.rules.proofs.Encoding.SoundFile.{sound-file}
 use Rattle.casefile.proofs.File.{accepted-head}
 use Rattle.pricing.specs.declared.Offer as code-offer
 use Rattle.pricing.specs.Totals.{noOffer, nothingOffered}
@@ -35,8 +37,7 @@ module _ {file : List ℕ} {offers : List code-offer.Offer} {i : ℕ} (s : Readi
 
   module _ (accepted : fileVerdict file ≡ Accepted) (all : i ≡ count file) where
     demand-range : demand file ≤ 320000
-    unfolding fileVerdict headVerdict
-    demand-range = let ((short, (edition, (counted, most))), rest) = simp accepts at accepted in most
+    demand-range = sound-file file .0 accepted .head .demand-greatest
 
     mapped : {A B : Type 0} (f : A → B) (xs : List A) (n : ℕ) (d : A) (e : B) → n < length xs → getD (map f xs) n e ≡ f (getD xs n d)
     mapped f [] n d e h = absurd (omega arith)

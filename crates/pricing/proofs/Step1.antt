@@ -3,7 +3,6 @@ use mathlib.Core.Path.{_≡_}
 use mathlib.Core.Bool.{Bool, true, false, false≢true}
 use Prim.Native.Nat.{_*_}
 use lib.Dec.{leb}
-use Rattle.rules.specs.Unit.{Problem}
 use Rattle.rules.specs.Bisection.{solvable}
 use Rattle.pricing.specs.declared.Problem as code-problem
 use Rattle.pricing.specs.declared.Allocation as code-allocation

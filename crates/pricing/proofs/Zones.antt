@@ -10,12 +10,11 @@ use lib.Dec.{ltb}
 use lib.ListN.{drop}
 use lib.Seq.{drop-cons}
 use borrow.Author.Tests.{lt-ltb, le-ltb}
-use Rattle.rules.specs.Layout.{Unit, Zone, zoneAt, zones}
-use Rattle.rules.specs.Refusal.{zonesAscend}
-use Rattle.rules.specs.Unit.{strictlyInside}
 use Rattle.rules.specs.Lists.{all}
-use Rattle.rules.proofs.Lists.{Every, getD-each, length-each, accepts}
-use Rattle.rules.proofs.Sound.{Between as ZoneBetween, ascending}
+use Rattle.rules.specs.Unit.{Unit, Zone, zoneAt, zones, strictlyInside}
+use Rattle.rules.specs.Refusal.{zonesAscend}
+use Rattle.rules.proofs.Lists.{Every, getD-each, length-each}
+use Rattle.rules.proofs.Sound.{ZoneBetween, zone-parts, ascending}
 
 -- ---- a zone
 
@@ -42,11 +41,6 @@ outside p zs = all (λ z. not (strictlyInside p z)) zs
 outside-below : (p low high : ℕ) (zs : List Zone) → Every (λ z. ZoneBetween low z high) zs → p ≤ low → outside p zs ≡ true
 outside-below p low high [] e h = refl
 outside-below p low high (z ∷ zs) e h = rw (not-inside-below p z (omega (arith, e .0 .least))) (outside-below p low high zs (e .1) h)
-
--- a zone below others
-pub zone-parts : (from top : ℕ) (z : Zone) (zs : List Zone) → zonesAscend from (z ∷ zs) top ≡ true → (from < z .lower) × (z .lower < z .upper) × (zonesAscend (z .upper) zs top ≡ true)
-unfolding zonesAscend
-zone-parts from top z zs a = let ((first, order), later) = simp accepts at a in (first, order, later)
 
 pub before-zone : (p from top : ℕ) (z : Zone) (zs : List Zone) → zonesAscend from (z ∷ zs) top ≡ true → p ≤ z .lower → outside p (z ∷ zs) ≡ true
 before-zone p from top z zs a h =

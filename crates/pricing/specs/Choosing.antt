@@ -2,11 +2,11 @@
 use Prim.Native.Nat.{ℕ, _≤_}
 use mathlib.Core.Path.{_≡_}
 use lib.IntN.{ℤ}
-use Rattle.rules.specs.Unit.{Offer}
+use Rattle.rules.specs.Problem.{Offer}
 use Rattle.rules.specs.Choice.{choice}
 use Rattle.rules.proofs.Integers.{up, dn}
 use Rattle.pricing.specs.declared.Offer as code-offer
-use Rattle.pricing.specs.Held.{Holds}
+use Rattle.pricing.specs.OfferHeld.{Holds}
 
 -- a × p² + l × p + c is in range
 pub record Priceable (a : ℕ) (l : ℤ) (c p : ℕ) : Type 0 where

@@ -1,6 +1,6 @@
 pub mod Turn
 pub mod Regions
-pub mod Held
+pub mod OfferHeld
 pub mod Choosing
 pub mod Totals
 pub mod Offering

@@ -3,12 +3,12 @@ use Prim.Native.Nat.{ℕ, _≤_}
 use mathlib.Core.Path.{_≡_}
 use mathlib.Core.Bool.{true}
 use mathlib.Core.Logic.{_↔_}
-use Rattle.rules.specs.Layout.{Unit}
-use Rattle.rules.specs.Unit.{inRampWindow, offer}
+use Rattle.rules.specs.Unit.{Unit, inRampWindow}
+use Rattle.rules.specs.Problem.{offer}
 use Rattle.pricing.specs.declared.Offer as code-offer
 use Rattle.pricing.specs.declared.Window as code-window
 use Rattle.pricing.specs.Regions.{Between}
-use Rattle.pricing.specs.Held.{Bounded, Holds}
+use Rattle.pricing.specs.OfferHeld.{Bounded, Holds}
 
 pub record Windowed (u : Unit) (w : code-window.Window) : Type 0 where
   pub limit : w .from ≤ 10000

@@ -2,10 +2,9 @@
 use Prim.Native.Nat.{ℕ}
 use mathlib.Core.Bool.{cond}
 use mathlib.Core.List.{List}
-use Rattle.rules.specs.Unit.{Problem, unitsOf, totalNet, covers}
+use Rattle.rules.specs.Problem.{Problem, unitsOf, totalNet, covers, problemIn}
 use Rattle.rules.specs.Choice.{choices, dualValue}
 use Rattle.rules.specs.Bisection.{solvable}
-use Rattle.rules.specs.Calls.{problemIn}
 use Rattle.rules.specs.declared.Refusal.the-variants.{NoAllocation}
 use Rattle.rules.specs.declared.Priced.{Priced}
 use Rattle.pricing.specs.declared.Problem as code-problem

@@ -6,14 +6,15 @@ use mathlib.Core.List.{List, []}
 use lib.Dec.{ltb}
 use lib.ListN.{length, getD, take}
 use Rattle.rules.specs.Lists.{all, greatest}
-use Rattle.rules.specs.Unit.{cost, net, totalCost, totalNet, Offer, Problem, unitsOf}
+use Rattle.rules.specs.Unit.{cost, net}
+use Rattle.rules.specs.Problem.{totalCost, totalNet, Offer, Problem, unitsOf}
 use Rattle.rules.specs.Choice.{choices, dualValue}
 use Rattle.rules.specs.Bisection.{greatestOutputs, solvable}
 use Rattle.pricing.specs.declared.Offer as code-offer
 use Rattle.pricing.specs.declared.Problem as code-problem
 use Rattle.pricing.specs.declared.Allocation as code-allocation
 use Rattle.pricing.specs.declared.Evaluation as code-evaluation
-use Rattle.pricing.specs.Held.{unitOf, Bounded, Holds}
+use Rattle.pricing.specs.OfferHeld.{unitOf, Bounded, Holds}
 
 -- what stands past the end of a list of offers
 abbrev pub noOffer : code-offer.Offer

@@ -2,7 +2,7 @@
 ghost use mathlib.Core.Path.{_≡_};
 ghost use Prim.Native.Nat.{_≤_};
 ghost use Rattle.rules.specs.Refusal.{fileVerdict};
-ghost use Rattle.rules.specs.Unit.{Problem as RulesProblem};
+ghost use Rattle.rules.specs.Problem.{Problem as RulesProblem};
 ghost use Rattle.rules.specs.Calls.{priced};
 ghost use Rattle.pricing.specs.Totals.{BoundedProblem, HoldsProblem};
 ghost use Rattle.pricing.specs.Priced.{ProblemIn, pricedIn};

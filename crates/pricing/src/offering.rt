@@ -3,7 +3,7 @@ ghost use mathlib.Core.Path.{_≡_};
 ghost use Prim.Native.Nat.{_*_, _≤_, _<_, max, min};
 ghost use lib.ListN.{getD};
 ghost use Rattle.rules.specs.Refusal.{unitVerdict};
-ghost use Rattle.unit.specs.Held.{unitHeld};
+ghost use Rattle.unit.specs.UnitHeld.{unitHeld};
 ghost use Rattle.pricing.specs.Offering.{Windowed, Regions};
 use crate::Offer;
 use crate::Window;

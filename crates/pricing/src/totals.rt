@@ -1,7 +1,7 @@
 // All units at one multiplier: their choices, the dual value and its floor; and their greatest outputs.
 ghost use mathlib.Core.Path.{_≡_};
-ghost use Rattle.rules.specs.Choice.{dividedUp};
-ghost use Rattle.pricing.specs.Held.{Bounded};
+ghost use Rattle.rules.specs.Numbers.{dividedUp};
+ghost use Rattle.pricing.specs.OfferHeld.{Bounded};
 ghost use Rattle.pricing.specs.Totals.{BoundedProblem, Evaluable, Evaluates, GreatestOutput, GreatestOutputs, Permits, Solvable};
 use crate::Allocation;
 use crate::Evaluation;

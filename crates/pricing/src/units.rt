@@ -4,7 +4,7 @@ ghost use Prim.Native.Nat.{ℕ, _+_, _*_, _≤_, _<_, max, min};
 ghost use Rattle.rules.specs.Unit.{cost as Unit·cost, net as Unit·net};
 ghost use Rattle.rules.proofs.Integers.{up, dn, Is};
 ghost use Rattle.pricing.specs.Turn.{Turn};
-ghost use Rattle.pricing.specs.Held.{unitOf, Coefficients, Choosable};
+ghost use Rattle.pricing.specs.OfferHeld.{unitOf, Coefficients, Choosable};
 ghost use Rattle.pricing.specs.Choosing.{Priceable, Chooses};
 use crate::Offer;
 

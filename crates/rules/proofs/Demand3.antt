@@ -6,24 +6,26 @@ use Prim.Native.Nat.{ℕ, suc, _+_, _*_, _≤_, _<_}
 use native.Mathlib.Omega.{arith}
 use lib.ListN.{length}
 use borrow.Author.Tests.{le-ltb}
-use Rattle.rules.specs.Layout.{Unit, Case, caseOf, count}
+use Rattle.rules.specs.Lists.{over}
+use Rattle.rules.specs.Unit.{Unit, permitted}
+use Rattle.rules.specs.Layout.{Case, caseOf, count}
 use Rattle.rules.specs.Refusal.{_refuses_, fileVerdict}
-use Rattle.rules.specs.Unit.{permitted, allocation, problemOf}
+use Rattle.rules.specs.Problem.{allocation, problemOf, problemIn}
 use Rattle.rules.specs.Bisection.{solvable, solve}
-use Rattle.rules.specs.Calls.{over, replyBytes, dispatchVerdict, dispatchEnds, dispatched}
+use Rattle.rules.specs.Calls.{replyBytes, caseVerdict, dispatchVerdict, dispatchEnds, dispatched}
 use Rattle.rules.specs.Promise.{Promise, Demand3}
 use Rattle.rules.specs.declared.Refusal.the-variants.{NoAllocation}
 use Rattle.rules.specs.declared.Verdict.{Verdict}
 use Rattle.rules.specs.declared.Dispatched.{Dispatched}
+use Rattle.rules.proofs.Lists.{Every, and-true, every-more, length-each, accepts}
 use Rattle.rules.proofs.Integers.{ints, is-pos, is-minus}
-use Rattle.rules.proofs.Lists.{Every, and-true, every-more, length-each}
 use Rattle.rules.proofs.Sound.{Sound}
-use Rattle.rules.proofs.SoundFile.{sound-file, units-packable}
-use Rattle.rules.proofs.Outputs.{permitted-greatest}
-use Rattle.rules.proofs.Totals.{total-cost-range, total-net-range}
-use Rattle.rules.proofs.Solvable.{unsolvable}
-use Rattle.rules.proofs.Solution.{reply-promise, floor-not-negative, permitted-given, covering-net}
-use Rattle.rules.proofs.ReplyBytes.{Fitting, length-reply, reply-spelled}
+use Rattle.rules.proofs.Encoding.SoundFile.{sound-file, units-sound}
+use Rattle.rules.proofs.Encoding.ReplyBytes.{Fitting, length-reply, reply-spelled}
+use Rattle.rules.proofs.Economics.Outputs.{permitted-greatest}
+use Rattle.rules.proofs.Economics.Totals.{total-cost-range, total-net-range}
+use Rattle.rules.proofs.Economics.Solvable.{unsolvable, case-proper}
+use Rattle.rules.proofs.Economics.Solution.{reply-promise, floor-not-negative, permitted-given, covering-net}
 
 -- ---- an allocation has an output for each unit, none above 10,000
 
@@ -58,25 +60,31 @@ module _ (c : Case) (s : Every Sound (c .units)) (few : length (c .units) ≤ 32
         count = omega (arith, reply-count);
         evaluations = omega (arith, p .atMost18);
         cost = omega (arith, p .cost, total-cost-range (c .units) (r .outputs) s small);
-        gap = omega (arith, ints, p .cost, total-cost-range (c .units) (r .outputs) s small, floor-not-negative c s solves, is-minus (is-pos (r .cost)) (is-pos (r .gap)), is-pos 0);
+        gap = omega (arith, ints, p .cost, total-cost-range (c .units) (r .outputs) s small, floor-not-negative (problemOf c) (case-proper c s) solves, is-minus (is-pos (r .cost)) (is-pos (r .gap)), is-pos 0);
         surplus = omega (arith, p .surplus, total-net-range (c .units) (r .outputs) s small);
         outputs = every-more (λ n. n ≤ 10000) (λ n. n < 65536) (λ n h. omega arith) (r .outputs) small;
       }
+
+-- ---- what an accepted case is
+
+pub case-accepted : (file : List ℕ) → caseVerdict file ≡ Verdict.Accepted → (fileVerdict file ≡ Verdict.Accepted) × (solvable (problemIn file) ≡ true)
+unfolding caseVerdict
+case-accepted file e = simp accepts at e
 
 -- ---- dispatch of an accepted file, by whether step 1 accepts
 
 module _ (file reply : List ℕ) (accepted : fileVerdict file ≡ Verdict.Accepted) (long : 92 ≤ length reply) where
   -- the verdict is step 1's
   verdict-is : dispatchVerdict file reply ≡ (not (solvable (problemOf (caseOf file))) refuses NoAllocation)
-  unfolding dispatchVerdict
+  unfolding dispatchVerdict caseVerdict
   verdict-is = rw (le-ltb (length reply) 92 long, accepted)
 
   sounds : Every Sound (caseOf file .units)
-  sounds = every-more _ Sound (λ u p. p .sound) (caseOf file .units) (units-packable (sound-file file accepted))
+  sounds = units-sound file accepted
 
   few : length (caseOf file .units) ≤ 32
   unfolding caseOf
-  few = rw length-each (sound-file file accepted .count-greatest)
+  few = rw length-each (sound-file file .0 accepted .head .count-greatest)
 
   module _ (solves : solvable (problemOf (caseOf file)) ≡ true) where
     out : List ℕ
@@ -114,7 +122,7 @@ module _ (file reply : List ℕ) (accepted : fileVerdict file ≡ Verdict.Accept
         let c = caseOf file in
         rw refused
         (record {
-          refuses = ((λ _ ps a k. omega (arith, unsolvable c sounds fails ps (permitted-given c ps a), covering-net c ps k)), λ _. refl);
+          refuses = ((λ _ ps a k. omega (arith, unsolvable (problemOf c) (case-proper c sounds) fails ps (permitted-given c ps a), covering-net c ps k)), λ _. refl);
           replies = λ n. absurd (n refl);
           reply = λ n. absurd (n refl);
         })

@@ -3,12 +3,14 @@ use mathlib.Core.Path.{_≡_, refl}
 use mathlib.Core.List.{List, [], _∷_}
 use Prim.Native.Nat.{ℕ, _*_, _≤_, _<_}
 use native.Mathlib.Omega.{arith}
+use lib.Dec.{ltb}
 use lib.ListN.{length}
-use Rattle.rules.specs.Layout.{Unit, count, unitAt, caseOf, bodiesLength, unitsOfRows}
-use Rattle.rules.specs.Refusal.{numberOf}
-use Rattle.rules.specs.Unit.{problemOf}
+use Rattle.rules.specs.Unit.{Unit}
+use Rattle.rules.specs.Layout.{count, unitAt, caseOf, bodiesLength, unitsOfRows}
+use Rattle.rules.specs.Refusal.{numberOf, _refuses_}
+use Rattle.rules.specs.Problem.{problemOf}
 use Rattle.rules.specs.Bisection.{solve}
-use Rattle.rules.specs.Calls.{dispatchVerdict, dispatchEnds, dispatched, packVerdict, packed, replyBytes}
+use Rattle.rules.specs.Calls.{caseVerdict, dispatchVerdict, dispatchEnds, dispatched, packVerdict, packed, replyBytes}
 use Rattle.rules.specs.declared.Refusal.{Refusal}
 use Rattle.rules.specs.declared.Refusal.the-variants.{
   BufferTooShort,
@@ -30,14 +32,13 @@ use Rattle.rules.specs.declared.Verdict.{Verdict}
 use Rattle.rules.specs.declared.Verdict.the-variants.{Accepted, Refused}
 use Rattle.rules.specs.declared.Dispatched.{Dispatched}
 use Rattle.rules.specs.declared.Packed.{Packed}
-use Rattle.rules.proofs.Lists.{Every, every-more, length-each, accepts}
-use Rattle.rules.proofs.Sound.{Sound}
-use Rattle.rules.proofs.Body.{Packable}
-use Rattle.rules.proofs.SoundFile.{sound-file, units-packable}
-use Rattle.rules.proofs.RoundTrip.{length-file}
-use Rattle.rules.proofs.Undo.{sound-rows, pack-wrote}
-use Rattle.rules.proofs.ReplyBytes.{length-reply}
-use Rattle.rules.proofs.Demand3.{reply-count}
+use Rattle.rules.proofs.Lists.{Every, length-each, then-accepted}
+use Rattle.rules.proofs.Encoding.Body.{Packable}
+use Rattle.rules.proofs.Encoding.SoundFile.{sound-file, units-sound}
+use Rattle.rules.proofs.Encoding.RoundTrip.{length-file}
+use Rattle.rules.proofs.Encoding.Undo.{sound-rows, pack-wrote}
+use Rattle.rules.proofs.Encoding.ReplyBytes.{length-reply}
+use Rattle.rules.proofs.Demand3.{reply-count, case-accepted}
 
 pub number-below-30 : (r : Refusal) → numberOf r < 30
 number-below-30 BufferTooShort = omega arith
@@ -70,11 +71,11 @@ pub replied-length : (file reply : List ℕ) (n : ℕ) → dispatched file reply
 unfolding dispatched dispatchVerdict
 replied-length file reply n e =
     let (accepted, long) = replied-when (dispatchVerdict file reply) file reply n e in
-    let (room, (verdict, solves)) = simp accepts at accepted in
-    let s = sound-file file verdict in
+    let (room, case) = then-accepted (ltb (length reply) 92 refuses BufferTooShort) (caseVerdict file) .0 accepted in
+    let (verdict, solves) = case-accepted file case in
+    let s = sound-file file .0 verdict .head in
     let c = caseOf file in
-    let sounds = every-more Packable Sound (λ u p. p .sound) (c .units) (units-packable s) in
-    let number = reply-count c sounds (omega (arith, units-count file, s .count-greatest)) solves in
+    let number = reply-count c (units-sound file verdict) (omega (arith, units-count file, s .count-greatest)) solves in
     omega (arith, long, length-reply (solve (problemOf c)), number, units-count file, s .count-least, s .count-greatest)
 
 bodies-length : (us : List Unit) → Every Packable us → (26 * length us ≤ bodiesLength us) × (bodiesLength us ≤ 42 * length us)

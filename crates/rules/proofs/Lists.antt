@@ -4,7 +4,7 @@ use native.Mathlib.Nat.{add-zero}
 use native.Mathlib.Omega.{arith}
 use mathlib.Core.Path.{_≡_, refl, ap, ap₂, _∙_}
 use mathlib.Core.Logic.{_↔_, _≢_}
-use mathlib.Core.Bool.{Bool, true, false, not, _&&_, _||_, and-eq-true-iff, true≢false}
+use mathlib.Core.Bool.{Bool, true, false, cond, not, _&&_, _||_, and-eq-true-iff, true≢false}
 use mathlib.Core.List.{List, [], _∷_, _++_, map}
 use lib.Dec.{ltb, leb, eqb}
 use lib.ListN.{length, getD, take}
@@ -109,6 +109,25 @@ every-map P f (x ∷ xs) =
     let rest = every-map P f xs in
     (λ p. (p .0, rest .0 (p .1)), λ p. (p .0, rest .1 (p .1)))
 
+-- ---- pairwise: a relation between the elements of two lists, as many in each
+
+module _ {A B : Type 0} where
+  abbrev pub Pairwise : (A → B → Type 0) → List A → List B → Type 0
+  Pairwise R [] [] = Unit {0}
+  Pairwise R [] (y ∷ ys) = ⊥
+  Pairwise R (x ∷ xs) [] = ⊥
+  Pairwise R (x ∷ xs) (y ∷ ys) = R x y × Pairwise R xs ys
+
+  pub pairwise-more : (R S : A → B → Type 0) → ((x : A) (y : B) → R x y → S x y) → (xs : List A) (ys : List B) → Pairwise R xs ys → Pairwise S xs ys
+  pairwise-more R S h [] [] p = tt
+  pairwise-more R S h [] (y ∷ ys) p = absurd p
+  pairwise-more R S h (x ∷ xs) [] p = absurd p
+  pairwise-more R S h (x ∷ xs) (y ∷ ys) p = (h x y (p .0), pairwise-more R S h xs ys (p .1))
+
+  pub pairwise-map : (P : A → Type 0) (R : A → B → Type 0) (f : A → B) → ((x : A) → P x → R x (f x)) → (xs : List A) → Every P xs → Pairwise R xs (map f xs)
+  pairwise-map P R f h [] p = tt
+  pairwise-map P R f h (x ∷ xs) p = (h x (p .0), pairwise-map P R f h xs (p .1))
+
 -- ---- tests: what each says of its numbers or parts
 
 pub or-false : (a b : Bool) → ((a || b) ≡ false) ↔ ((a ≡ false) × (b ≡ false))
@@ -135,6 +154,11 @@ eqb-is-false a b = (eqb-false a b, ne-eqb a b)
 
 pub eqb-is-true : (a b : ℕ) → (eqb a b ≡ true) ↔ (a ≡ b)
 eqb-is-true a b = (eqb-true a b, eq-eqb a b)
+
+-- what holds either way of a test holds of what the test picks
+pub either-way : {A : Type 0} (P : A → Type 0) (t : Bool) {x y : A} → (t ≡ true → P x) → (t ≡ false → P y) → P (cond t x y)
+either-way P true f g = f refl
+either-way P false f g = g refl
 
 -- ---- verdicts
 

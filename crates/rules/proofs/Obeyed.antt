@@ -9,18 +9,18 @@ use lib.ListN.{length, getD}
 use lib.Seq.{drop-cons}
 use borrow.Author.Tests.{lt-ltb}
 use Rattle.fields.specs.Field.{numberAfter, field}
-use Rattle.rules.specs.Layout.{Unit, zoneAt, zones, edgeOfBody, unitOfBody, bodyLength, body}
+use Rattle.rules.specs.Unit.{Unit, zoneAt, zones, permitted, strictlyInside}
+use Rattle.rules.specs.Layout.{edgeOfBody, unitOfBody, bodyLength, body}
 use Rattle.rules.specs.Refusal.{fileVerdict, bodyVerdict}
-use Rattle.rules.specs.Unit.{permitted, strictlyInside}
 use Rattle.rules.specs.Undoing.{twoBytes, ZoneObeyedOrFileRefused}
 use Rattle.rules.specs.declared.Refusal.{Refusal}
 use Rattle.rules.specs.declared.Verdict.{Verdict}
 use Rattle.rules.specs.declared.Verdict.the-variants.{Accepted, Refused}
 use Rattle.rules.proofs.Lists.{all-each, getD-each}
 use Rattle.rules.proofs.Sound.{Sound}
-use Rattle.rules.proofs.Body.{body-packable, body-length}
-use Rattle.rules.proofs.SoundFile.{sound-file}
-use Rattle.rules.proofs.Outputs.{runs-permitted}
+use Rattle.rules.proofs.Encoding.Body.{body-packable, body-length}
+use Rattle.rules.proofs.Encoding.SoundFile.{sound-file}
+use Rattle.rules.proofs.Economics.Outputs.{runs-permitted}
 
 -- a field of two bytes
 field-two : (s : List ℕ) (at : ℕ) → at + 2 ≤ length s → field s at 2 ≡ twoBytes s at
@@ -76,4 +76,4 @@ obeyed file i k h j = by (fileVerdict file) refl
   where
     by : (v : Verdict) → fileVerdict file ≡ v → ((r : Refusal) × (fileVerdict file ≡ Refused r)) ⊎ ((p : ℕ) → twoBytes (body file i) (26 + 4 * k) < p → p < twoBytes (body file i) (28 + 4 * k) → permitted (unitOfBody (body file i)) p ≡ false)
     by (Refused r) e = inl (r, e)
-    by Accepted e = inr (obeyed-in (body file i) (sound-file file e .bodies i h) k j)
+    by Accepted e = inr (obeyed-in (body file i) (sound-file file .0 e .bodies i h) k j)

@@ -9,7 +9,7 @@ use lib.Dec.{eqb}
 use lib.ListN.{getD, drop}
 use lib.Seq.{getD-drop}
 use borrow.Author.Tests.{eqb-true, eq-eqb}
-use Rattle.rules.specs.Layout.{Unit, Zone, zoneAt, zones}
+use Rattle.rules.specs.Unit.{Unit, Zone, zoneAt, zones}
 use Rattle.rules.specs.Refusal.{zonesAscend, unusedEdgesZero, unitVerdict}
 use Rattle.rules.specs.declared.Verdict.the-variants.{Accepted}
 use Rattle.rules.proofs.Lists.{Every, every-from, each-every, every-more, all-every, accepts}
@@ -86,30 +86,36 @@ module _ (u : Unit) where
 
 -- ---- the edges in use
 
-pub record Between (low : ℕ) (z : Zone) (high : ℕ) : Type 0 where
+-- a zone lies between two outputs
+pub record ZoneBetween (low : ℕ) (z : Zone) (high : ℕ) : Type 0 where
   pub least : low < z .lower
   pub order : z .lower < z .upper
   pub greatest : z .upper < high
 
-pub ascending : (low high : ℕ) (zs : List Zone) → zonesAscend low zs high ≡ true → (low < high) × Every (λ z. Between low z high) zs
+-- the first zone, and those behind it
+pub zone-parts : (low high : ℕ) (z : Zone) (zs : List Zone) → zonesAscend low (z ∷ zs) high ≡ true → (low < z .lower) × (z .lower < z .upper) × (zonesAscend (z .upper) zs high ≡ true)
+unfolding zonesAscend
+zone-parts low high z zs e = let ((first, order), later) = simp accepts at e in (first, order, later)
+
+pub ascending : (low high : ℕ) (zs : List Zone) → zonesAscend low zs high ≡ true → (low < high) × Every (λ z. ZoneBetween low z high) zs
 unfolding zonesAscend
 ascending low high [] e = (simp accepts at e, tt)
 ascending low high (z ∷ zs) e =
-    let ((first, order), later) = simp accepts at e in
+    let (first, order, later) = zone-parts low high z zs e in
     let (rest, every) = ascending (z .upper) high zs later in (
       omega arith,
       (
         record { least = first; order = order; greatest = rest },
-        every-more (λ y. Between (z .upper) y high) (λ y. Between low y high) (λ y p. omega arith) zs every,
+        every-more (λ y. ZoneBetween (z .upper) y high) (λ y. ZoneBetween low y high) (λ y p. omega arith) zs every,
       ),
     )
 
 module _ {u : Unit} (s : Sound u) where
   -- both edges of zone k
-  pub zone-between : (k : ℕ) → k < u .zoneCount → Between (u .least) (zoneAt (u .edges) k) (u .greatest)
+  pub zone-between : (k : ℕ) → k < u .zoneCount → ZoneBetween (u .least) (zoneAt (u .edges) k) (u .greatest)
   unfolding zones
   zone-between k h =
-      each-every (λ z. Between (u .least) z (u .greatest)) (u .zoneCount) (zoneAt (u .edges))
+      each-every (λ z. ZoneBetween (u .least) z (u .greatest)) (u .zoneCount) (zoneAt (u .edges))
       (ascending (u .least) (u .greatest) (zones u) (s .ascend) .1) k h
 
   -- an edge in use lies between least and greatest

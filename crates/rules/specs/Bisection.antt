@@ -1,20 +1,21 @@
 -- Document 01, "Choice, floor, bisection", steps 1 to 4: dual bisection. Steps 2 to 4 ask of an allocation only its net, so they are stated over any type of allocations.
-use Prim.Native.Nat.{ℕ, zero, suc, _+_, _*_, _-_, _/_, _^_}
+use Prim.Native.Nat.{ℕ, zero, suc, _+_, _-_, _/_, _^_}
 use mathlib.Core.Bool.{Bool, cond, _&&_}
 use mathlib.Core.List.{List, [], _∷_, map}
 use lib.Dec.{leb, eqb, ltb}
-use lib.IntN.{ℤ, pos, negsuc, _-ℤ_}
+use lib.IntN.{pos, _-ℤ_}
 use lib.ListN.{length}
 use Rattle.rules.specs.Lists.{all, greatest}
-use Rattle.rules.specs.Unit.{totalCost, totalNet, covers, Problem, unitsOf}
-use Rattle.rules.specs.Choice.{choices, greatestFloor}
+use Rattle.rules.specs.Numbers.{natural}
+use Rattle.rules.specs.Problem.{totalCost, totalNet, covers, Problem, unitsOf, target}
+use Rattle.rules.specs.Choice.{selected, greatestFloor}
 
 -- what the search found: its best allocation, and the multipliers that it evaluated, the last one first. (An evaluation is one of the dual function.)
 pub record Found (X : Type 0) : Type 0 where
   pub best : X
   pub evaluated : List ℕ
 
--- `choose m` are the choices of m; an allocation covers if its net is at least `target`
+-- `choose m` is the allocation that the evaluation of m takes; an allocation covers if its net is at least `target`
 module _ {X : Type 0} (choose : ℕ → X) (net : X → ℕ) (target : ℕ) where
   -- "4. With low 0 and high 65,536, halve until high − low is 1: evaluate the middle (low + high) / 2. Equal net: it is the best, stop. Covering: it is the best and the new high. Else: the new low."
   -- high − low is 2 ^ k: it starts at 2 ^ 16, and half of 2 ^ (k + 1) is 2 ^ k.
@@ -59,12 +60,7 @@ solvable q =
     all (λ o. ltb 0 (length (o .outputs))) (q .offers) && covers (q .demand) (totalNet (unitsOf q) (greatestOutputs q))
 
 unfoldable pub found : Problem → Found (List ℕ)
-found q = search (λ m. choices m q) (totalNet (unitsOf q)) (100000000 * q .demand) (greatestOutputs q)
-
--- an integer that is not negative, as a natural number (of a negative one, 0)
-unfoldable pub natural : ℤ → ℕ
-natural (pos n) = n
-natural (negsuc n) = 0
+found q = search (λ m. selected m q) (totalNet (unitsOf q)) (target q) (greatestOutputs q)
 
 -- ---- "Gap = cost of the best − the greatest floor evaluated. Surplus = net of the best − 100,000,000 × d. Evaluations = 1 if step 2 stops, 2 if step 3 stops, else 2 + the number of middles evaluated in step 4, …"
 -- Gap is the duality gap, as an amount; surplus the slack of the power balance. (Neither is ever negative: see `Promise`.)
@@ -82,7 +78,7 @@ replyOf q f =
       evaluations = length (f .evaluated);
       cost = totalCost (unitsOf q) (f .best);
       gap = natural (pos (totalCost (unitsOf q) (f .best)) -ℤ greatestFloor q (f .evaluated));
-      surplus = totalNet (unitsOf q) (f .best) - 100000000 * q .demand;
+      surplus = totalNet (unitsOf q) (f .best) - target q;
       outputs = f .best;
     }
 

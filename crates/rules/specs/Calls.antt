@@ -5,11 +5,13 @@ use mathlib.Core.Bool.{cond, not, _||_}
 use mathlib.Core.List.{List, [], _∷_, _++_, map}
 use lib.Dec.{ltb, eqb}
 use lib.IntN.{ℤ, pos}
-use lib.ListN.{length, drop}
+use lib.ListN.{length}
 use Rattle.fields.specs.Field.{bytes, bytesOfEach}
-use Rattle.rules.specs.Layout.{Unit, caseOf, unitsOfRows, rowsOfUnits, bodiesLength, fileOf}
+use Rattle.rules.specs.Unit.{Unit}
+use Rattle.rules.specs.Lists.{over}
+use Rattle.rules.specs.Layout.{caseOf, unitsOfRows, rowsOfUnits, bodiesLength, fileOf}
 use Rattle.rules.specs.Refusal.{numberOf, _refuses_, _then_, inOrder, fileVerdict, unitVerdict}
-use Rattle.rules.specs.Unit.{Problem, problemOf, unitsOf, totalNet, covers}
+use Rattle.rules.specs.Problem.{problemIn, unitsOf, totalNet, covers}
 use Rattle.rules.specs.Choice.{choices, dualValue}
 use Rattle.rules.specs.Bisection.{Reply, solvable, solve}
 use Rattle.rules.specs.declared.Refusal.the-variants.{
@@ -26,13 +28,10 @@ use Rattle.rules.specs.declared.Priced.{Priced}
 use Rattle.rules.specs.declared.Packed.{Packed}
 use Rattle.rules.specs.declared.Unpacked.{Unpacked}
 
--- a buffer with something at its start
-abbrev pub over : {A : Type 0} → List A → List A → List A
-over s buffer = s ++ drop (length s) buffer
+-- ---- the case: what a call that dispatches asks of the file, its checks and then step 1
 
--- the problem in a file's bytes
-abbrev pub problemIn : List ℕ → Problem
-problemIn file = problemOf (caseOf file)
+unfoldable pub caseVerdict : List ℕ → Verdict
+caseVerdict file = fileVerdict file then not (solvable (problemIn file)) refuses NoAllocation
 
 -- ---- dispatch
 
@@ -47,10 +46,7 @@ pub record DispatchResult : Type 0 where
   pub reply : List ℕ
 
 unfoldable pub dispatchVerdict : List ℕ → List ℕ → Verdict
-dispatchVerdict file reply =
-    ltb (length reply) 92 refuses BufferTooShort
-    then fileVerdict file
-    then not (solvable (problemIn file)) refuses NoAllocation
+dispatchVerdict file reply = ltb (length reply) 92 refuses BufferTooShort then caseVerdict file
 
 unfoldable pub dispatchEnds : Verdict → List ℕ → List ℕ → DispatchResult
 dispatchEnds (Verdict.Refused r) file reply = record { answer = Dispatched.Refused r; reply = reply }
@@ -64,10 +60,7 @@ dispatched file reply = dispatchEnds (dispatchVerdict file reply) file reply
 -- ---- pricing: "takes a file and an m and returns the dual value and whether the choices cover d; it runs step 1 first"
 
 unfoldable pub priceVerdict : List ℕ → ℕ → Verdict
-priceVerdict file m =
-    ltb 65536 m refuses MultiplierOutOfRange
-    then fileVerdict file
-    then not (solvable (problemIn file)) refuses NoAllocation
+priceVerdict file m = ltb 65536 m refuses MultiplierOutOfRange then caseVerdict file
 
 unfoldable pub priceEnds : Verdict → List ℕ → ℕ → Priced
 priceEnds (Verdict.Refused r) file m = Priced.Refused r

@@ -1,11 +1,12 @@
 -- Document 01, "Choice, floor, bisection", first paragraph: Lagrangian relaxation of the demand at a whole multiplier m, 0 to 65,536, in hundredths of the currency per MWh.
-use Prim.Native.Nat.{ℕ, suc, _+_, _*_, _-_, _/_}
+use Prim.Native.Nat.{ℕ, _+_, _*_, _-_}
 use mathlib.Core.Bool.{cond}
 use mathlib.Core.List.{List, [], _∷_, map}
-use lib.IntN.{ℤ, pos, negsuc, negℤ, subℕ, _+ℤ_}
+use lib.IntN.{ℤ, pos, subℕ, _+ℤ_}
 use lib.Signed.{leZ}
-use Rattle.rules.specs.Layout.{Unit}
-use Rattle.rules.specs.Unit.{cost, net, Offer, Problem}
+use Rattle.rules.specs.Numbers.{total, dividedUp, greatestAt}
+use Rattle.rules.specs.Unit.{Unit, cost, net}
+use Rattle.rules.specs.Problem.{Offer, Problem, target}
 
 -- priced cost: a unit's Lagrangian at an output, "100,000 × cost(p) − m × net(p), a signed number"
 unfoldable pub pricedCost : ℕ → Unit → ℕ → ℤ
@@ -30,33 +31,22 @@ choice m o = choiceOf (pricedCost m (o .unit)) (o .outputs)
 abbrev pub leastPricedCost : ℕ → Offer → ℤ
 leastPricedCost m o = pricedCost m (o .unit) (choice m o)
 
-unfoldable pub total : List ℤ → ℤ
-total [] = pos 0
-total (z ∷ zs) = z +ℤ total zs
-
 -- ---- of a problem
 
 unfoldable pub choices : ℕ → Problem → List ℕ
 choices m q = map (choice m) (q .offers)
 
+-- the allocation that an evaluation of m takes: its choices
+unfoldable pub selected : ℕ → Problem → List ℕ
+selected m q = choices m q
+
 -- dual value: the Lagrangian dual function, "the sum of the units' least priced costs plus m × 100,000,000 × d; it may be negative"
 unfoldable pub dualValue : ℕ → Problem → ℤ
-dualValue m q = total (map (leastPricedCost m) (q .offers)) +ℤ pos (m * (100000000 * q .demand))
-
--- a quotient rounded up, toward plus infinity
-unfoldable pub dividedUp : ℤ → ℕ → ℤ
-dividedUp (pos n) k = pos ((n + (k - 1)) / k)
-dividedUp (negsuc n) k = negℤ (pos (suc n / k))
+dualValue m q = total (map (leastPricedCost m) (q .offers)) +ℤ pos (m * target q)
 
 -- floor: the dual lower bound on the cost of whatever covers, "the dual value divided by 100,000, rounded up"
 unfoldable pub floor : ℕ → Problem → ℤ
 floor m q = dividedUp (dualValue m q) 100000
-
--- the greatest that a function has at some multipliers (at none, 0)
-unfoldable pub greatestAt : (ℕ → ℤ) → List ℕ → ℤ
-greatestAt f [] = pos 0
-greatestAt f (m ∷ []) = f m
-greatestAt f (m ∷ n ∷ ms) = let rest = greatestAt f (n ∷ ms) in cond (leZ (f m) rest) rest (f m)
 
 abbrev pub greatestFloor : Problem → List ℕ → ℤ
 greatestFloor q ms = greatestAt (λ m. floor m q) ms

@@ -1,4 +1,4 @@
--- Document 01, "The case file": a unit, the planner's row and the file's body that spell it, and the whole file. Fields are big-endian (`fields`).
+-- Document 01, "The case file": the planner's row and the file's body that spell a unit, and the whole file. Fields are big-endian (`fields`).
 use Prim.Native.Nat.{ℕ, _+_, _*_, _/_}
 use mathlib.Core.Bool.{cond}
 use mathlib.Core.List.{List, [], _∷_, _++_, map}
@@ -6,34 +6,7 @@ use lib.Dec.{ltb}
 use lib.ListN.{length, getD, take, drop}
 use Rattle.fields.specs.Field.{field, bytes, bytesOfEach}
 use Rattle.rules.specs.Lists.{each, sum}
-
--- A unit is a generating unit (a set): the nineteen numbers of a row, by name. Outputs are in steps, the resolution of 0.1 MW.
-pub record Unit : Type 0 where
-  pub c0 : ℕ  -- cost coefficients: constant, linear, quadratic
-  pub c1 : ℕ
-  pub c2 : ℕ
-  pub b : ℕ  -- loss coefficient: the unit's own B coefficient
-  pub least : ℕ  -- limits of the running outputs
-  pub greatest : ℕ
-  pub previous : ℕ  -- previous output and ramp limits
-  pub up : ℕ
-  pub down : ℕ
-  pub mark : ℕ  -- must-run flag: 0 may stand, 1 must run
-  pub zoneCount : ℕ
-  pub edges : List ℕ  -- four pairs of lower and upper edge, zero where unused
-
--- a prohibited operating zone
-pub record Zone : Type 0 where
-  pub lower : ℕ
-  pub upper : ℕ
-
--- zone k, counted from 0: a pair of edges
-abbrev pub zoneAt : List ℕ → ℕ → Zone
-zoneAt edges k = record { lower = getD edges (2 * k) 0; upper = getD edges (2 * k + 1) 0 }
-
--- the zones in use: as many as the unit's count says
-unfoldable pub zones : Unit → List Zone
-zones u = each (u .zoneCount) (zoneAt (u .edges))
+use Rattle.rules.specs.Unit.{Unit}
 
 -- ---- "The planner's rows are a lent list of 32-bit numbers, 19 to a unit: the eleven numbers before the edges in body order, then four pairs of edges, zero where unused."
 

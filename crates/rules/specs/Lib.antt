@@ -1,7 +1,9 @@
 pub mod Lists
+pub mod Numbers
+pub mod Unit
 pub mod Layout
 pub mod Refusal
-pub mod Unit
+pub mod Problem
 pub mod Choice
 pub mod Bisection
 pub mod Calls

@@ -1,7 +1,8 @@
 -- The few functions on lists that document 01's sentences need.
 use Prim.Native.Nat.{ℕ, zero, suc, _+_, max}
 use mathlib.Core.Bool.{Bool, true, cond, _&&_}
-use mathlib.Core.List.{List, [], _∷_}
+use mathlib.Core.List.{List, [], _∷_, _++_}
+use lib.ListN.{length, drop}
 
 module _ {A : Type 0} where
   -- f 0, f 1, .. up to f (n - 1) (tabulate)
@@ -18,6 +19,10 @@ module _ {A : Type 0} where
   abbrev pub filter : (A → Bool) → List A → List A
   filter test [] = []
   filter test (x ∷ xs) = let rest = filter test xs in cond (test x) (x ∷ rest) rest
+
+  -- a buffer with something at its start
+  abbrev pub over : List A → List A → List A
+  over s buffer = s ++ drop (length s) buffer
 
 abbrev pub sum : List ℕ → ℕ
 sum [] = 0

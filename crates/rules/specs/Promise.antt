@@ -11,8 +11,8 @@ use Rattle.fields.specs.Field.{field}
 use Rattle.rules.specs.Lists.{each}
 use Rattle.rules.specs.Layout.{Case, caseOf}
 use Rattle.rules.specs.Refusal.{fileVerdict}
-use Rattle.rules.specs.Unit.{allocation, totalCost, totalNet, covers, Problem, problemOf}
-use Rattle.rules.specs.Choice.{choices, floor}
+use Rattle.rules.specs.Problem.{allocation, totalCost, totalNet, covers, Problem, problemOf}
+use Rattle.rules.specs.Choice.{selected, floor}
 use Rattle.rules.specs.Bisection.{Reply, found}
 use Rattle.rules.specs.Calls.{DispatchResult}
 use Rattle.rules.specs.declared.Refusal.the-variants.{NoAllocation}
@@ -60,7 +60,7 @@ pub record ReplyPromise (c : Case) (r : Reply) : Type 0 where
   -- "That difference equals the greatest of the floors of all whole multipliers from 0 to 65,536."
   pub greatestFloor : GreatestFloor (problemOf c) (costLessGap r)
   -- "Whichever of these multipliers is taken, if its choices cover the demand, they cost at least as much as the reply."
-  pub cheapest : (m : ℕ) → m ≤ 65536 → Covering c (choices m (problemOf c)) → r .cost ≤ totalCost (c .units) (choices m (problemOf c))
+  pub cheapest : (m : ℕ) → m ≤ 65536 → Covering c (selected m (problemOf c)) → r .cost ≤ totalCost (c .units) (selected m (problemOf c))
   -- "The reply's evaluations are exactly as many as document 01's bisection makes for that file, never above 18."
   pub evaluations : r .evaluations ≡ length (found (problemOf c) .evaluated)
   pub atMost18 : r .evaluations ≤ 18

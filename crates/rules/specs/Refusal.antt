@@ -5,7 +5,8 @@ use mathlib.Core.List.{List, [], _∷_}
 use lib.Dec.{ltb, leb, eqb}
 use lib.ListN.{length, drop}
 use Rattle.rules.specs.Lists.{each, all}
-use Rattle.rules.specs.Layout.{Unit, Zone, zones, unitOfBody, bodyLength, edition, count, demand, offset, size, body}
+use Rattle.rules.specs.Unit.{Unit, Zone, zones}
+use Rattle.rules.specs.Layout.{unitOfBody, bodyLength, edition, count, demand, offset, size, body}
 use Rattle.rules.specs.declared.Refusal.{Refusal}
 use Rattle.rules.specs.declared.Refusal.the-variants.{
   BufferTooShort,
@@ -99,13 +100,27 @@ zonesAscend below (z ∷ zs) above = ltb below (z .lower) && ltb (z .lower) (z .
 abbrev pub unusedEdgesZero : Unit → Bool
 unusedEdgesZero u = all (λ e. eqb e 0) (drop (2 * u .zoneCount) (u .edges))
 
+-- what each number from 7 to 10 refuses in a unit
+abbrev pub zoneCountInvalid : Unit → Bool
+zoneCountInvalid u = ltb 4 (u .zoneCount) || not (unusedEdgesZero u)
+
+abbrev pub coefficientOutOfRange : Unit → Bool
+coefficientOutOfRange u = ltb 1000000000 (u .c0) || ltb 10000000 (u .c1) || ltb 1000 (u .c2) || ltb 5000 (u .b)
+
+abbrev pub limitsInvalid : Unit → Bool
+limitsInvalid u =
+    not (leb 1 (u .least) && ltb (u .least) (u .greatest) && leb (u .greatest) 10000
+    && zonesAscend (u .least) (zones u) (u .greatest))
+
+abbrev pub rampOrMarkOutOfRange : Unit → Bool
+rampOrMarkOutOfRange u = ltb 10000 (u .previous) || ltb 10000 (u .up) || ltb 10000 (u .down) || ltb 1 (u .mark)
+
 unfoldable pub unitVerdict : Unit → Verdict
 unitVerdict u =
-    (ltb 4 (u .zoneCount) || not (unusedEdgesZero u)) refuses ZoneCountInvalid
-    then (ltb 1000000000 (u .c0) || ltb 10000000 (u .c1) || ltb 1000 (u .c2) || ltb 5000 (u .b)) refuses CoefficientOutOfRange
-    then not (leb 1 (u .least) && ltb (u .least) (u .greatest) && leb (u .greatest) 10000
-    && zonesAscend (u .least) (zones u) (u .greatest)) refuses LimitsInvalid
-    then (ltb 10000 (u .previous) || ltb 10000 (u .up) || ltb 10000 (u .down) || ltb 1 (u .mark)) refuses RampOrMarkOutOfRange
+    zoneCountInvalid u refuses ZoneCountInvalid
+    then coefficientOutOfRange u refuses CoefficientOutOfRange
+    then limitsInvalid u refuses LimitsInvalid
+    then rampOrMarkOutOfRange u refuses RampOrMarkOutOfRange
 
 unfoldable pub bodyVerdict : List ℕ → Verdict
 bodyVerdict s =

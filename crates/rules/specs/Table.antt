@@ -7,12 +7,15 @@ use mathlib.Core.Path.{_≡_, refl}
 use lib.IntN.{ℤ, pos, negℤ}
 use lib.ListN.{length, replicate}
 use Rattle.fields.specs.Field.{numberAfter, bytes, bytesOfEach}
-use Rattle.rules.specs.Layout.{Unit, zones, edgeOfBody, unitOfBody, bodyOfUnit, caseOf, contentsFrom, bodiesOf, fileOf, unitOfRow, unitsOfRows}
+use Rattle.rules.specs.Lists.{over}
+use Rattle.rules.specs.Numbers.{total, dividedUp, greatestAt, natural}
+use Rattle.rules.specs.Unit.{Unit, zones, permitted, cost, net}
+use Rattle.rules.specs.Layout.{edgeOfBody, unitOfBody, bodyOfUnit, caseOf, contentsFrom, bodiesOf, fileOf, unitOfRow, unitsOfRows}
 use Rattle.rules.specs.Refusal.{headVerdict, contentsVerdict, zonesAscend, unitVerdict, bodyVerdict, fileVerdict, numberOf, numberOfVerdict}
-use Rattle.rules.specs.Unit.{permitted, cost, net, totalCost, totalNet, offer, problemOf}
-use Rattle.rules.specs.Choice.{pricedCost, leastFrom, choiceOf, total, choices, dualValue, dividedUp, floor, greatestAt}
-use Rattle.rules.specs.Bisection.{step4, step3, search, greatestOutputs, solvable, found, natural, replyOf, solve}
-use Rattle.rules.specs.Calls.{over, replyBytes, dispatchVerdict, dispatchEnds, dispatched, priceVerdict, priceEnds, priced, packVerdict, packEnds, packed}
+use Rattle.rules.specs.Problem.{totalCost, totalNet, offer, problemOf}
+use Rattle.rules.specs.Choice.{pricedCost, leastFrom, choiceOf, choices, selected, dualValue, floor}
+use Rattle.rules.specs.Bisection.{step4, step3, search, greatestOutputs, solvable, found, replyOf, solve}
+use Rattle.rules.specs.Calls.{replyBytes, caseVerdict, dispatchVerdict, dispatchEnds, dispatched, priceVerdict, priceEnds, priced, packVerdict, packEnds, packed}
 use Rattle.rules.specs.declared.Dispatched.{Dispatched}
 use Rattle.rules.specs.declared.Packed.{Packed}
 use Rattle.rules.specs.declared.Priced.{Priced}
@@ -48,7 +51,7 @@ ofPricing (Priced.Refused r) = refuses (numberOf r) []
 
 -- what the rules give
 unfoldable pub answer : Call → Answer
-unfolding numberAfter bytes bytesOfEach zones edgeOfBody unitOfBody bodyOfUnit caseOf contentsFrom bodiesOf fileOf headVerdict contentsVerdict zonesAscend unitVerdict bodyVerdict fileVerdict permitted cost net totalCost totalNet offer problemOf pricedCost leastFrom choiceOf total choices dualValue dividedUp floor greatestAt step4 step3 search greatestOutputs solvable found natural replyOf solve replyBytes dispatchVerdict dispatchEnds dispatched priceVerdict priceEnds priced unitOfRow unitsOfRows packVerdict packEnds packed
+unfolding numberAfter bytes bytesOfEach zones edgeOfBody unitOfBody bodyOfUnit caseOf contentsFrom bodiesOf fileOf headVerdict contentsVerdict zonesAscend unitVerdict bodyVerdict fileVerdict permitted cost net totalCost totalNet offer problemOf pricedCost leastFrom choiceOf total choices selected dualValue dividedUp floor greatestAt step4 step3 search greatestOutputs solvable found natural replyOf solve replyBytes caseVerdict dispatchVerdict dispatchEnds dispatched priceVerdict priceEnds priced unitOfRow unitsOfRows packVerdict packEnds packed
 answer (dispatch file) = let r = dispatched file buffer in ofDispatch (r .answer) (r .reply)
 answer (price file m) = ofPricing (priced file m)
 answer (pack d rows) = let r = packed d rows buffer in ofPacking (r .answer) (r .file)

@@ -6,10 +6,11 @@ use mathlib.Core.Logic.{_⊎_}
 use mathlib.Core.Path.{_≡_}
 use lib.ListN.{length, getD, take}
 use Rattle.fields.specs.Field.{Bytes}
+use Rattle.rules.specs.Lists.{over}
+use Rattle.rules.specs.Unit.{permitted}
 use Rattle.rules.specs.Layout.{count, body, unitAt}
 use Rattle.rules.specs.Refusal.{fileVerdict}
-use Rattle.rules.specs.Unit.{permitted}
-use Rattle.rules.specs.Calls.{over, packed, unpacked}
+use Rattle.rules.specs.Calls.{packed, unpacked}
 use Rattle.rules.specs.declared.Refusal.{Refusal}
 use Rattle.rules.specs.declared.Verdict.{Verdict}
 use Rattle.rules.specs.declared.Packed.{Packed}

@@ -1,10 +1,40 @@
--- Document 01, "Permitted outputs, cost, net". An output is a whole number of steps.
-use Prim.Native.Nat.{ℕ, suc, _+_, _*_, _-_}
-use mathlib.Core.Bool.{Bool, true, false, cond, not, _&&_}
-use mathlib.Core.List.{List, [], _∷_, map}
+-- A generating unit: its numbers, and document 01's "Permitted outputs, cost, net". An output is a whole number of steps of 0.1 MW.
+use Prim.Native.Nat.{ℕ, _+_, _*_, _-_}
+use mathlib.Core.Bool.{Bool, true, cond, not, _&&_}
+use mathlib.Core.List.{List}
 use lib.Dec.{ltb, leb, eqb}
-use Rattle.rules.specs.Lists.{each, all, filter}
-use Rattle.rules.specs.Layout.{Unit, Zone, zones, Case}
+use lib.ListN.{getD}
+use Rattle.rules.specs.Lists.{each, all}
+
+-- A unit is a generating unit (a set): the nineteen numbers of a row, by name. Outputs are in steps, the resolution of 0.1 MW.
+pub record Unit : Type 0 where
+  pub c0 : ℕ  -- cost coefficients: constant, linear, quadratic
+  pub c1 : ℕ
+  pub c2 : ℕ
+  pub b : ℕ  -- loss coefficient: the unit's own B coefficient
+  pub least : ℕ  -- limits of the running outputs
+  pub greatest : ℕ
+  pub previous : ℕ  -- previous output and ramp limits
+  pub up : ℕ
+  pub down : ℕ
+  pub mark : ℕ  -- must-run flag: 0 may stand, 1 must run
+  pub zoneCount : ℕ
+  pub edges : List ℕ  -- four pairs of lower and upper edge, zero where unused
+
+-- a prohibited operating zone
+pub record Zone : Type 0 where
+  pub lower : ℕ
+  pub upper : ℕ
+
+-- zone k, counted from 0: a pair of edges
+abbrev pub zoneAt : List ℕ → ℕ → Zone
+zoneAt edges k = record { lower = getD edges (2 * k) 0; upper = getD edges (2 * k + 1) 0 }
+
+-- the zones in use: as many as the unit's count says
+unfoldable pub zones : Unit → List Zone
+zones u = each (u .zoneCount) (zoneAt (u .edges))
+
+-- ---- permitted outputs
 
 -- "strictly inside": both edges of a zone are permitted
 abbrev pub strictlyInside : ℕ → Zone → Bool
@@ -32,45 +62,3 @@ cost u p = u .c0 + u .c1 * p + u .c2 * p * p
 -- (The difference of naturals stops at 0; in an accepted file it never does: `Quantities.net-whole`.)
 unfoldable pub net : Unit → ℕ → ℕ
 net u p = 100000000 * p - u .b * p * p
-
--- ---- An allocation is a dispatch of the units, whether it covers or not. "An allocation gives each unit a permitted output. Its cost is the sum of the units' costs, its net the sum of their nets."
-
-unfoldable pub allocation : List Unit → List ℕ → Bool
-allocation [] [] = true
-allocation [] (p ∷ ps) = false
-allocation (u ∷ us) [] = false
-allocation (u ∷ us) (p ∷ ps) = permitted u p && allocation us ps
-
-unfoldable pub totalCost : List Unit → List ℕ → ℕ
-totalCost [] ps = 0
-totalCost (u ∷ us) [] = 0
-totalCost (u ∷ us) (p ∷ ps) = cost u p + totalCost us ps
-
-unfoldable pub totalNet : List Unit → List ℕ → ℕ
-totalNet [] ps = 0
-totalNet (u ∷ us) [] = 0
-totalNet (u ∷ us) (p ∷ ps) = net u p + totalNet us ps
-
--- the power balance as an inequality: "it covers d, after losses, if its net is at least 100,000,000 × d"
-abbrev pub covers : ℕ → ℕ → Bool
-covers d n = leb (100000000 * d) n
-
--- ---- An offer is a unit with its feasible set, the outputs that it may be given; a problem is a demand and offers. A case is the problem where each unit offers all its permitted outputs.
-
-pub record Offer : Type 0 where
-  pub unit : Unit
-  pub outputs : List ℕ
-
-pub record Problem : Type 0 where
-  pub demand : ℕ
-  pub offers : List Offer
-
-abbrev pub unitsOf : Problem → List Unit
-unitsOf q = map (λ o. o .unit) (q .offers)
-
--- every output from 0 to greatest that is permitted
-unfoldable pub offer : Unit → Offer
-offer u = record { unit = u; outputs = filter (permitted u) (each (suc (u .greatest)) (λ p. p)) }
-
-unfoldable pub problemOf : Case → Problem
-problemOf c = record { demand = c .demand; offers = map offer (c .units) }

@@ -1,13 +1,12 @@
 // A unit and its checks, refusals 7 to 10. They serve the bodies of a file and the planner's rows alike.
 ghost use mathlib.Core.Path.{_≡_};
-ghost use mathlib.Core.Bool.{not, _&&_, _||_};
 ghost use Prim.Native.Nat.{_≤_};
-ghost use lib.Dec.{ltb, leb, eqb};
+ghost use lib.Dec.{eqb};
 ghost use lib.ListN.{drop};
 ghost use Rattle.rules.specs.Lists.{all};
-ghost use Rattle.rules.specs.Layout.{zones};
-ghost use Rattle.rules.specs.Refusal.{unusedEdgesZero, zonesAscend, unitVerdict};
-ghost use Rattle.unit.specs.Held.{unitHeld};
+ghost use Rattle.rules.specs.Unit.{zones};
+ghost use Rattle.rules.specs.Refusal.{zonesAscend, zoneCountInvalid, coefficientOutOfRange, limitsInvalid, rampOrMarkOutOfRange, unitVerdict};
+ghost use Rattle.unit.specs.UnitHeld.{unitHeld};
 use rules::Refusal;
 use rules::Verdict;
 
@@ -43,7 +42,7 @@ fn zero_from(edges: [u32; 8], first: usize) -> bool
 
 // Refusal 7: too many zones, or an unused edge that is not zero.
 fn zone_count_invalid(u: Unit) -> bool
-    ensures { λ r. ⌜ r ≡ (ltb 4 (unitHeld u .zoneCount) || not (unusedEdgesZero (unitHeld u))) ⌝ }
+    ensures { λ r. ⌜ r ≡ zoneCountInvalid (unitHeld u) ⌝ }
 {
     let Unit {
         zone_count,
@@ -58,7 +57,7 @@ fn zone_count_invalid(u: Unit) -> bool
 
 // Refusal 8: a coefficient above its limit.
 fn coefficient_out_of_range(u: Unit) -> bool
-    ensures { λ r. ⌜ r ≡ (ltb 1000000000 (u .c0) || ltb 10000000 (u .c1) || ltb 1000 (u .c2) || ltb 5000 (u .b)) ⌝ }
+    ensures { λ r. ⌜ r ≡ coefficientOutOfRange (unitHeld u) ⌝ }
 {
     let Unit { c0, c1, c2, b, .. } = u;
     if c0 > 1000000000 {
@@ -106,7 +105,7 @@ fn zones_ascend(u: Unit) -> bool
 // Refusal 9: least, greatest or an edge out of range or order.
 fn limits_invalid(u: Unit) -> bool
     requires { ⌜ unitHeld u .zoneCount ≤ 4 ⌝ }
-    ensures { λ r. ⌜ r ≡ not (leb 1 (u .least) && ltb (u .least) (u .greatest) && leb (u .greatest) 10000 && zonesAscend (u .least) (zones (unitHeld u)) (u .greatest)) ⌝ }
+    ensures { λ r. ⌜ r ≡ limitsInvalid (unitHeld u) ⌝ }
 {
     let Unit {
         least,
@@ -127,7 +126,7 @@ fn limits_invalid(u: Unit) -> bool
 
 // Refusal 10: previous output, up step, down step or mark out of range.
 fn ramp_or_mark_out_of_range(u: Unit) -> bool
-    ensures { λ r. ⌜ r ≡ (ltb 10000 (u .previous) || ltb 10000 (u .up) || ltb 10000 (u .down) || ltb 1 (u .mark)) ⌝ }
+    ensures { λ r. ⌜ r ≡ rampOrMarkOutOfRange (unitHeld u) ⌝ }
 {
     let Unit {
         previous,

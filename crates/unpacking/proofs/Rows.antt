@@ -5,13 +5,13 @@ use native.Mathlib.Omega.{arith}
 use mathlib.Core.Path.{_≡_, ap, sym, _∙_}
 use mathlib.Core.List.{List, [], _∷_, _++_, append-assoc, append-nil}
 use lib.ListN.{length, getD}
-use Rattle.rules.specs.Lists.{each}
-use Rattle.rules.specs.Layout.{Unit, body, unitAt, rowOfUnit, rowsOfUnits}
-use Rattle.rules.specs.Calls.{over}
+use Rattle.rules.specs.Lists.{each, over}
+use Rattle.rules.specs.Unit.{Unit}
+use Rattle.rules.specs.Layout.{body, unitAt, rowOfUnit, rowsOfUnits}
 use Rattle.rules.proofs.Lists.{each-last, each-getD}
-use Rattle.rules.proofs.Rows.{length-row}
-use Rattle.rules.proofs.Body.{body-eight}
-use Rattle.rules.proofs.Front.{Front, lent, givenBack, front-tail}
+use Rattle.rules.proofs.Encoding.Rows.{length-row}
+use Rattle.rules.proofs.Encoding.Body.{body-eight}
+use Rattle.rules.proofs.Encoding.Front.{Front, lent, givenBack, front-tail}
 
 pub eight : (edges : List ℕ) → length edges ≡ 8 → each 8 (λ i. getD edges i 0) ≡ edges
 eight edges l = ap (λ (n : ℕ). each n (λ i. getD edges i 0)) (sym l) ∙ each-getD edges 0

@@ -2,11 +2,11 @@
 ghost use mathlib.Core.Path.{_≡_};
 ghost use Prim.Native.Nat.{_*_, _≤_};
 ghost use lib.ListN.{length};
-ghost use Rattle.rules.specs.Lists.{each};
+ghost use Rattle.rules.specs.Lists.{each, over};
 ghost use Rattle.rules.specs.Layout.{rowOfUnit, rowsOfUnits, count, unitAt};
 ghost use Rattle.rules.specs.Refusal.{fileVerdict};
-ghost use Rattle.rules.specs.Calls.{over, unpacked};
-ghost use Rattle.unit.specs.Held.{unitHeld};
+ghost use Rattle.rules.specs.Calls.{unpacked};
+ghost use Rattle.unit.specs.UnitHeld.{unitHeld};
 use casefile::check;
 use casefile::count;
 use casefile::demand;

@@ -4,8 +4,8 @@ use native.Mathlib.Omega.{arith}
 use mathlib.Core.Path.{ap, sym, _∙_}
 use borrow.Author.Needs.{needs}
 use denote.Ref.{now}
-use Rattle.rules.specs.Refusal.{unitVerdict}
 use Rattle.rules.specs.Layout.{unitInRow}
+use Rattle.rules.specs.Refusal.{unitVerdict}
 use Rattle.rules.proofs.Each.{Checked, checked-starts, checked-ends, checked-refused, checked-more}
 use Rattle.packing.proofs.check_rows.Statement.{statement}
 use Rattle.packing.proofs.check_rows.Tie as tie

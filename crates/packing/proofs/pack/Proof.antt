@@ -6,7 +6,7 @@ use lib.ListN.{length}
 use borrow.Author.Needs.{needs}
 use denote.Ref.{now}
 use Rattle.rules.specs.declared.Verdict.the-variants.{Accepted}
-use Rattle.packing.proofs.Cases.{few-rows, rowCount, notRows, rowVerdicts, rows-sound, packed-rows, packed-demand, packed-row, packed-short, packed-written}
+use Rattle.packing.proofs.Packed.{few-rows, rowCount, notRows, rowVerdicts, rows-sound, packed-rows, packed-demand, packed-row, packed-short, packed-written}
 use Rattle.packing.proofs.pack.Statement.{statement}
 use Rattle.packing.proofs.pack.Tie as tie
 

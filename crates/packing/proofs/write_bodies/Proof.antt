@@ -4,11 +4,11 @@ use native.Mathlib.Omega.{arith}
 use mathlib.Core.Path.{_≡_, refl, ap, _∙_}
 use lib.ListN.{length-take, length-drop, length}
 use denote.Ref.{now}
-use Rattle.rules.specs.Layout.{unitInRow, Unit, bodyOfUnit, bodiesOf}
+use Rattle.rules.specs.Lists.{over, each}
+use Rattle.rules.specs.Unit.{Unit}
+use Rattle.rules.specs.Layout.{unitInRow, bodyOfUnit, bodiesOf}
 use Rattle.rules.specs.Refusal.{unitVerdict}
-use Rattle.rules.specs.Calls.{over}
-use Rattle.rules.specs.Lists.{each}
-use Rattle.rules.proofs.Front.{lent, Front, front-none, front-length, front-over}
+use Rattle.rules.proofs.Encoding.Front.{lent, Front, front-none, front-length, front-over}
 use Rattle.packing.proofs.Lengths.{sizeOf, total, total-more, total-until, few-zones}
 use Rattle.packing.proofs.Written.{body-next}
 use Rattle.packing.proofs.write_bodies.Statement.{statement}

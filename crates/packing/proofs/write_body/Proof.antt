@@ -6,8 +6,8 @@ use lib.ListN.{length-take, length-drop, length}
 use borrow.Author.Needs.{needs}
 use denote.Ref.{now}
 use Rattle.rules.proofs.Sound.{sound}
-use Rattle.unit.specs.Held.{unitHeld}
-use Rattle.rules.proofs.Front.{front-length}
+use Rattle.rules.proofs.Encoding.Front.{front-length}
+use Rattle.unit.specs.UnitHeld.{unitHeld}
 use Rattle.packing.proofs.Written.{words-fit, edges-fit, numbers-front, body-whole}
 use Rattle.packing.proofs.write_body.Statement.{statement}
 use Rattle.packing.proofs.write_body.Tie as tie

@@ -4,12 +4,11 @@ use native.Mathlib.Omega.{arith}
 use mathlib.Core.Path.{_≡_, refl, ap, _∙_}
 use lib.ListN.{length}
 use denote.Ref.{now}
-use Rattle.rules.specs.Calls.{over}
-use Rattle.rules.specs.Lists.{each}
+use Rattle.rules.specs.Lists.{over, each}
 use Rattle.rules.specs.Layout.{unitInRow, contentsFrom}
 use Rattle.packing.proofs.Lengths.{few-zones, total, total-more}
 use Rattle.packing.proofs.Written.{entry-next}
-use Rattle.rules.proofs.Front.{Front, front-none, front-length, front-over}
+use Rattle.rules.proofs.Encoding.Front.{Front, front-none, front-length, front-over}
 use Rattle.packing.proofs.write_contents.Statement.{statement}
 use Rattle.packing.proofs.write_contents.Tie as tie
 

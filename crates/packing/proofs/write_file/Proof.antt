@@ -5,7 +5,7 @@ use lib.ListN.{length-take, length-drop, length}
 use borrow.Author.Needs.{needs}
 use denote.Ref.{now}
 use Rattle.rules.specs.Layout.{unitInRow}
-use Rattle.rules.proofs.Front.{givenBack, front-length}
+use Rattle.rules.proofs.Encoding.Front.{givenBack, front-length}
 use Rattle.packing.proofs.Written.{front-contents, file-whole}
 use Rattle.packing.proofs.write_file.Statement.{statement}
 use Rattle.packing.proofs.write_file.Tie as tie

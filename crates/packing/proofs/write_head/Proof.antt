@@ -1,7 +1,7 @@
 -- `packing::write_head` meets its contract, field by field.
 use borrow.Author.Needs.{needs}
 use denote.Ref.{now}
-use Rattle.rules.proofs.Front.{front-none, front-field, front-over}
+use Rattle.rules.proofs.Encoding.Front.{front-none, front-field, front-over}
 use Rattle.packing.proofs.write_head.Statement.{statement}
 use Rattle.packing.proofs.write_head.Tie as tie
 

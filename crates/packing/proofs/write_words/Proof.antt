@@ -7,8 +7,8 @@ use lib.Seq.{take-length}
 use lib.ListN.{length, take}
 use denote.Ref.{now}
 use Rattle.fields.specs.Field.{bytesOfEach}
-use Rattle.rules.specs.Calls.{over}
-use Rattle.rules.proofs.Front.{Front, front-none, front-each, front-length, front-over}
+use Rattle.rules.specs.Lists.{over}
+use Rattle.rules.proofs.Encoding.Front.{Front, front-none, front-each, front-length, front-over}
 use Rattle.packing.proofs.write_words.Statement.{statement}
 use Rattle.packing.proofs.write_words.Tie as tie
 

@@ -4,7 +4,7 @@ use native.Mathlib.Omega.{arith}
 use mathlib.Core.Path.{_≡_, refl, sym, _∙_}
 use lib.ListN.{length}
 use borrow.Author.Needs.{needs}
-use Rattle.rules.specs.Layout.{zones}
+use Rattle.rules.specs.Unit.{zones}
 use Rattle.unit.proofs.Zones.{ascendFrom, ascend-ends, ascend-fails-lower, ascend-fails-upper, ascend-more}
 use Rattle.unit.proofs.zones_ascend.Statement.{statement}
 use Rattle.unit.proofs.zones_ascend.Tie as tie

@@ -8,7 +8,7 @@ use Rattle.rules.specs.Layout.{count}
 use Rattle.rules.specs.Refusal.{fileVerdict}
 use Rattle.casefile.specs.Required.{HeadRead}
 use Rattle.casefile.proofs.File.{accepted-head}
-use Rattle.unpacking.proofs.Cases.{unpacked-short, unpacked-refused, unpacked-read}
+use Rattle.unpacking.proofs.Unpacked.{unpacked-short, unpacked-refused, unpacked-read}
 use Rattle.unpacking.proofs.unpack.Statement.{statement}
 use Rattle.unpacking.proofs.unpack.Tie as tie
 

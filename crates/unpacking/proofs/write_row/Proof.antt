@@ -8,8 +8,8 @@ use lib.Seq.{take-suc, take-all}
 use lib.ListN.{length, getD, take, length-set}
 use borrow.Author.Needs.{needs}
 use denote.Ref.{now}
-use Rattle.rules.specs.Calls.{over}
-use Rattle.rules.proofs.Front.{Front, front-none, front-set, front-over}
+use Rattle.rules.specs.Lists.{over}
+use Rattle.rules.proofs.Encoding.Front.{Front, front-none, front-set, front-over}
 use Rattle.unpacking.proofs.write_row.Statement.{statement}
 use Rattle.unpacking.proofs.write_row.Tie as tie
 

@@ -4,11 +4,10 @@ use native.Mathlib.Omega.{arith}
 use mathlib.Core.Path.{_≡_, refl, ap, _∙_}
 use lib.ListN.{length-take, length-drop, length}
 use denote.Ref.{now}
+use Rattle.rules.specs.Lists.{over, each}
 use Rattle.rules.specs.Layout.{rowOfUnit, rowsOfUnits, unitAt}
-use Rattle.rules.specs.Calls.{over}
-use Rattle.rules.specs.Lists.{each}
 use Rattle.unpacking.proofs.Rows.{rows-next}
-use Rattle.rules.proofs.Front.{Front, front-none, front-length, front-over}
+use Rattle.rules.proofs.Encoding.Front.{Front, front-none, front-length, front-over}
 use Rattle.unpacking.proofs.write_rows.Statement.{statement}
 use Rattle.unpacking.proofs.write_rows.Tie as tie
 

@@ -1,9 +1,11 @@
 -- `bisection::dispatching::dispatch` meets its contract: each return is one end of the definition (`Endings`).
 use mathlib.Core.Path.{sym, _∙_}
-use Rattle.bisection.proofs.Endings.{sound-units, promised, short, refused, unsolvable, replied}
+use Rattle.bisection.proofs.Endings.{promised, short, refused, unsolvable, replied}
 use denote.Ref.{now}
 use borrow.Author.Tests.{not-true, not-false}
-use Rattle.rules.specs.Layout.{caseOf}
+use Rattle.rules.specs.Problem.{problemIn}
+use Rattle.rules.proofs.Encoding.SoundFile.{units-sound}
+use Rattle.rules.proofs.Economics.Solvable.{case-proper}
 use borrow.Author.Needs.{needs}
 use Rattle.bisection.proofs.dispatching.dispatch.Statement.{statement}
 use Rattle.bisection.proofs.dispatching.dispatch.Tie as tie
@@ -41,9 +43,9 @@ solve-requires c κs =
     let yes = not-false _ (c .before .if2 .left) in
     record {
       searchable = record { bounded = s .before .problem-in .ensures .bounded; permitted = s .solvable .ensures .permitted yes };
-      case = caseOf (now (v .before .before .before .before .before .before .args .file));
+      problem = problemIn (now (v .before .before .before .before .before .before .args .file));
       holds = s .before .problem-in .ensures .holds;
-      sounds = sound-units _ accepted;
+      proper = case-proper _ (units-sound _ accepted);
       solves = sym (s .solvable .ensures .held _ (s .before .problem-in .ensures .holds)) ∙ yes;
     }
 

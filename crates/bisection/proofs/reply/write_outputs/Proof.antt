@@ -1,7 +1,7 @@
 -- `bisection::reply::write_outputs` meets its contract: the first i outputs are written (`Front`).
 use denote.Ref.{now}
 use Rattle.fields.specs.Field.{bytesOfEach}
-use Rattle.rules.proofs.Front.{Front, front-none, front-each, front-over}
+use Rattle.rules.proofs.Encoding.Front.{Front, front-none, front-each, front-over}
 use borrow.Author.Needs.{needs}
 use native.Mathlib.Omega.{arith}
 use Prim.Native.Nat.{_≤_, _-_, _*_}

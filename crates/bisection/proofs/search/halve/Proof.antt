@@ -6,7 +6,7 @@ use Rattle.bisection.proofs.Halving.{Halving, halving-starts, halving-e
 use mathlib.Core.Bool.{cond}
 use lib.Pow.{pow-pos}
 use lib.Signed.{leZ}
-use Rattle.rules.specs.Choice.{dividedUp}
+use Rattle.rules.specs.Numbers.{dividedUp}
 use borrow.Author.Needs.{needs}
 use native.Mathlib.Omega.{arith}
 use Prim.Native.Nat.{_/_, _<_, _*_}

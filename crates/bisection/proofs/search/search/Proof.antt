@@ -6,7 +6,7 @@ use lib.Signed.{leZ}
 use mir.Syntax.{w64}
 use mir.Val.{toZ, ofZ}
 use mir.Facts.{toZ-ofZ}
-use Rattle.rules.specs.Choice.{dividedUp}
+use Rattle.rules.specs.Numbers.{dividedUp}
 use Rattle.bisection.proofs.Searching.{step2-stops, step3-uncovered, step3-stops, step3-halves}
 use borrow.Author.Needs.{needs}
 use Rattle.bisection.proofs.search.search.Statement.{statement}

@@ -5,8 +5,8 @@ use mathlib.Core.Bool.{true, false}
 use mathlib.Core.Path.{_≡_, refl, ap, sym, _∙_}
 use borrow.Author.Tests.{not-true, not-false}
 use denote.Ref.{now}
-use Rattle.rules.specs.Refusal.{legalSize}
 use Rattle.rules.specs.Layout.{size, count}
+use Rattle.rules.specs.Refusal.{legalSize}
 use Rattle.casefile.proofs.Contents.{Passed, contents-short, contents-offset, contents-size, contents-end, passed-more}
 use Rattle.casefile.proofs.checking.contents_invalid.Statement.{statement}
 use Rattle.casefile.proofs.checking.contents_invalid.Tie as tie

@@ -1,6 +1,6 @@
 -- `pricing::offering::regions` meets its contract. The loop keeps what `Dividing` says of the offer that its locals make: it has the permitted outputs below the end of the last zone.
 use Rattle.rules.proofs.Sound.{Sound, sound}
-use Rattle.unit.specs.Held.{unitHeld}
+use Rattle.unit.specs.UnitHeld.{unitHeld}
 use Rattle.pricing.proofs.Pushing.{Pushable, at-most-one}
 use Rattle.pricing.proofs.Dividing.{Dividing, offerOf, dividing-starts, pushable, dividing-more, dividing-ends}
 use lib.Dec.{leb}

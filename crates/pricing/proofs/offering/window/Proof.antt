@@ -1,6 +1,6 @@
 -- `pricing::offering::window` meets its contract: each return is a law of `Ramp`.
 use Rattle.rules.proofs.Sound.{Sound, sound}
-use Rattle.unit.specs.Held.{unitHeld}
+use Rattle.unit.specs.UnitHeld.{unitHeld}
 use Rattle.pricing.proofs.Ramp.{no-window, window}
 use native.Mathlib.Omega.{arith}
 use Rattle.pricing.proofs.offering.window.Statement.{statement}

@@ -1,7 +1,7 @@
 -- `pricing::units::cost` meets its contract: every product is in range.
 use native.Mathlib.Omega.{arith}
 use mathlib.Core.Path.{sym}
-use Rattle.rules.proofs.Quantities.{cost-is}
+use Rattle.rules.proofs.Economics.Quantities.{cost-is}
 use Rattle.pricing.proofs.Range.{range}
 use Rattle.pricing.proofs.units.cost.Statement.{statement}
 use Rattle.pricing.proofs.units.cost.Tie as tie

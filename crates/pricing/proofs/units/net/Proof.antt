@@ -2,7 +2,7 @@
 use borrow.Author.Needs.{needs}
 use native.Mathlib.Omega.{arith}
 use mathlib.Core.Path.{sym}
-use Rattle.rules.proofs.Quantities.{net-is}
+use Rattle.rules.proofs.Economics.Quantities.{net-is}
 use Rattle.pricing.proofs.Range.{range}
 use Rattle.pricing.proofs.units.net.Statement.{statement}
 use Rattle.pricing.proofs.units.net.Tie as tie

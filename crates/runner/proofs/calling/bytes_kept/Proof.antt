@@ -1,5 +1,4 @@
 -- `runner::calling::bytes_kept` meets its contract: what is left to look at decides the answer.
-use borrow.Author.Needs.{needs}
 use native.Mathlib.Omega.{arith}
 use Prim.Native.Nat.{_-_}
 use mathlib.Core.Path.{_≡_, refl, sym, _∙_}

@@ -1,11 +1,12 @@
 -- An offer's costs are those of the struct that stands for it.
 use mathlib.Core.Path.{_≡_, sym, _∙_}
 use Prim.Native.Nat.{ℕ}
-use Rattle.rules.specs.Unit.{Offer, cost, net}
+use Rattle.rules.specs.Unit.{cost, net}
+use Rattle.rules.specs.Problem.{Offer}
 use Rattle.rules.specs.Choice.{pricedCost}
-use Rattle.rules.proofs.Quantities.{cost-is, net-is}
+use Rattle.rules.proofs.Economics.Quantities.{cost-is, net-is}
 use Rattle.pricing.specs.declared.Offer as code-offer
-use Rattle.pricing.specs.Held.{unitOf, Holds}
+use Rattle.pricing.specs.OfferHeld.{unitOf, Holds}
 
 module _ {o : code-offer.Offer} {f : Offer} (h : Holds o f) (p : ℕ) where
   pub cost-held : cost (f .unit) p ≡ cost (unitOf o) p

@@ -6,9 +6,9 @@ use native.Mathlib.Decide.{decLt}
 use native.Mathlib.Omega.{arith}
 use lib.IntN.{ℤ, pos}
 use lib.Signed.{_≤ℤ_}
-use Rattle.rules.specs.Choice.{dividedUp}
+use Rattle.rules.specs.Numbers.{dividedUp}
 use Rattle.rules.proofs.Integers.{Is, is-pos, at-most}
-use Rattle.rules.proofs.Rounding.{divided-at-most, divided-rises, divided-exact}
+use Rattle.rules.proofs.Economics.Rounding.{divided-at-most, divided-rises, divided-exact}
 
 -- ---- products of two orders
 

@@ -1,5 +1,5 @@
--- An offer's list of outputs: it ascends, and holds exactly the permitted outputs. So a unit's choice is permitted, of least priced cost, the greatest on a tie, and the only output that is so.
-use mathlib.Core.Path.{_≡_, refl, sym, ap, _∙_, subst}
+-- An offer's list of outputs: it ascends, and holds exactly the permitted outputs.
+use mathlib.Core.Path.{_≡_, refl, sym, ap, _∙_}
 use mathlib.Core.Bool.{Bool, true, false, cond, not, _&&_, true≢false}
 use mathlib.Core.List.{List, [], _∷_}
 use mathlib.Core.Logic.{_⊎_, _↔_, inl, inr}
@@ -8,11 +8,10 @@ use native.Mathlib.Omega.{arith}
 use lib.Dec.{leb, eqb}
 use borrow.Author.Tests.{leb-true, le-leb, ne-eqb}
 use Rattle.rules.specs.Lists.{each, filter, all, greatest}
-use Rattle.rules.specs.Layout.{Unit, zones}
-use Rattle.rules.specs.Unit.{permitted, runningOutput, strictlyInside, inRampWindow, offer}
-use Rattle.rules.specs.Choice.{pricedCost, choiceOf, choice}
+use Rattle.rules.specs.Unit.{Unit, zones, permitted, runningOutput, strictlyInside, inRampWindow}
+use Rattle.rules.specs.Problem.{offer}
 use Rattle.rules.proofs.Lists.{and-true, eqb-is-true}
-use Rattle.rules.proofs.Chosen.{Chosen, Among, none-among, Ascends, AscendsAbove, alike, scanned}
+use Rattle.rules.proofs.Economics.Chosen.{Among, Ascends, AscendsAbove}
 
 -- ---- the elements of a list of which a test holds
 
@@ -126,21 +125,3 @@ offered-permitted u p i = holds (permitted u) p (each (suc (u .greatest)) (λ p.
 pub permitted-offered : (u : Unit) (p : ℕ) → permitted u p ≡ true → Among p (offer u .outputs)
 unfolding offer
 permitted-offered u p h = kept (permitted u) p (each (suc (u .greatest)) (λ p. p)) h (eachAmong (suc (u .greatest)) (λ p. p) p (omega (arith, permitted-greatest u p h)))
-
--- ---- the choice
-
-pub offers-none : (u : Unit) → ((p : ℕ) → permitted u p ≡ true → ⊥) → offer u .outputs ≡ []
-offers-none u none = none-among (offer u .outputs) (λ p i. none p (offered-permitted u p i))
-
--- a unit's choice at m, where it has a permitted output
-pub choice-chosen : (m : ℕ) (u : Unit) (p : ℕ) → permitted u p ≡ true → Chosen (pricedCost m u) (λ q. permitted u q ≡ true) (choice m (offer u))
-unfolding offer
-choice-chosen m u p h =
-    by (offer u .outputs) refl (permitted-offered u p h)
-  where
-    by : (ps : List ℕ) → offer u .outputs ≡ ps → Among p ps → Chosen (pricedCost m u) (λ q. permitted u q ≡ true) (choiceOf (pricedCost m u) (offer u .outputs))
-    by [] e i = absurd i
-    by (q ∷ qs) e i =
-        subst (λ (l : List ℕ). Chosen (pricedCost m u) (λ r. permitted u r ≡ true) (choiceOf (pricedCost m u) l)) (sym e)
-        (alike (λ r j. offered-permitted u r (subst (Among r) (sym e) j)) (λ r j. subst (Among r) e (permitted-offered u r j))
-        (scanned (pricedCost m u) q qs (subst Ascends e (outputs-ascend u))))

@@ -4,10 +4,10 @@ use mathlib.Core.Path.{_≡_}
 use mathlib.Core.List.{List}
 use lib.ListN.{length}
 use borrow.Author.Tests.{lt-ltb, le-ltb}
-use Rattle.rules.specs.Lists.{each}
+use Rattle.rules.specs.Lists.{each, over}
 use Rattle.rules.specs.Layout.{unitAt, caseOf, rowsOfUnits, count, demand}
 use Rattle.rules.specs.Refusal.{fileVerdict}
-use Rattle.rules.specs.Calls.{over, unpackVerdict, unpackEnds, unpacked}
+use Rattle.rules.specs.Calls.{unpackVerdict, unpackEnds, unpacked}
 use Rattle.rules.specs.declared.Refusal.{Refusal}
 use Rattle.rules.specs.declared.Refusal.the-variants.{BufferTooShort}
 use Rattle.rules.specs.declared.Verdict.the-variants.{Accepted, Refused}

@@ -2,9 +2,9 @@
 use Prim.Native.Nat.{ℕ, _≤_, _<_}
 use mathlib.Core.Path.{_≡_}
 use mathlib.Core.List.{[]}
-use Rattle.rules.specs.Layout.{Unit}
-use Rattle.rules.specs.Unit.{Offer}
-use Rattle.rules.proofs.Chosen.{Among, Ascends}
+use Rattle.rules.specs.Unit.{Unit}
+use Rattle.rules.specs.Problem.{Offer}
+use Rattle.rules.proofs.Economics.Chosen.{Among, Ascends}
 use Rattle.pricing.specs.declared.Offer as code-offer
 use Rattle.pricing.specs.Regions.{Within, low, high}
 

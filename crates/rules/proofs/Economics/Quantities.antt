@@ -3,8 +3,7 @@ use mathlib.Core.Path.{_≡_, refl}
 use Prim.Native.Nat.{ℕ, zero, suc, _+_, _*_, _-_, _≤_}
 use native.Mathlib.Nat.{add-zero, le-refl, mul-le-mul, mul-le-mul-right}
 use native.Mathlib.Omega.{arith}
-use Rattle.rules.specs.Layout.{Unit}
-use Rattle.rules.specs.Unit.{cost, net}
+use Rattle.rules.specs.Unit.{Unit, cost, net}
 use Rattle.rules.specs.Choice.{pricedCost}
 use Rattle.rules.proofs.Integers.{Is, is-sub}
 use Rattle.rules.proofs.Sound.{Sound}

@@ -8,7 +8,7 @@ use lib.ListN.{length, take, drop, getD, set, length-append, length-drop}
 use lib.Seq.{take-at, drop-at, set-at, drop-cons, drop-drop, take-length, drop-length, take-suc, append-snoc}
 use Rattle.fields.specs.Field.{bytes, bytesOfEach, written}
 use Rattle.fields.proofs.Width.{length-bytes}
-use Rattle.rules.specs.Calls.{over}
+use Rattle.rules.specs.Lists.{over}
 
 -- the part of s from k on, as it is lent, and s with that part given back as t
 abbrev pub lent : {A : Type 0} → ℕ → List A → List A

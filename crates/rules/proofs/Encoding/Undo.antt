@@ -6,9 +6,11 @@ use mathlib.Core.List.{List, map}
 use lib.ListN.{length, take, drop}
 use lib.Seq.{take-at}
 use Rattle.fields.specs.Field.{Bytes}
-use Rattle.rules.specs.Layout.{Unit, Case, count, demand, unitAt, caseOf, unitsOfRows, rowsOfUnits, fileOf}
+use Rattle.rules.specs.Lists.{over}
+use Rattle.rules.specs.Unit.{Unit}
+use Rattle.rules.specs.Layout.{Case, count, demand, unitAt, caseOf, unitsOfRows, rowsOfUnits, fileOf}
 use Rattle.rules.specs.Refusal.{inOrder, unitVerdict, fileVerdict}
-use Rattle.rules.specs.Calls.{over, fileLength, PackResult, packVerdict, packEnds, packed, UnpackResult, unpackVerdict, unpackEnds, unpacked}
+use Rattle.rules.specs.Calls.{fileLength, PackResult, packVerdict, packEnds, packed, UnpackResult, unpackVerdict, unpackEnds, unpacked}
 use Rattle.rules.specs.Undoing.{PackedFileIsAccepted, UnpackingUndoesPacking, PackingUndoesUnpacking}
 use Rattle.rules.specs.declared.Verdict.{Verdict}
 use Rattle.rules.specs.declared.Verdict.the-variants.{Accepted, Refused}
@@ -16,10 +18,10 @@ use Rattle.rules.specs.declared.Packed.{Packed}
 use Rattle.rules.specs.declared.Unpacked.{Unpacked}
 use Rattle.rules.proofs.Lists.{Every, every-both, every-more, every-map, length-each, in-order-accepted, accepts}
 use Rattle.rules.proofs.Sound.{sound, sound-accepted}
-use Rattle.rules.proofs.Rows.{EightEdges, rows-units-rows, units-rows-units, length-rows, rows-eight}
-use Rattle.rules.proofs.Body.{Packable}
-use Rattle.rules.proofs.SoundFile.{sound-file}
-use Rattle.rules.proofs.RoundTrip.{length-file, file-accepted, case-file-case, file-case-file, accepted-units}
+use Rattle.rules.proofs.Encoding.Rows.{EightEdges, rows-units-rows, units-rows-units, length-rows, rows-eight}
+use Rattle.rules.proofs.Encoding.Body.{Packable}
+use Rattle.rules.proofs.Encoding.SoundFile.{sound-file}
+use Rattle.rules.proofs.Encoding.RoundTrip.{length-file, file-accepted, case-file-case, file-case-file, accepted-units}
 
 -- ---- accepted rows
 
@@ -143,7 +145,7 @@ module _ (file : List ℕ) (b : Bytes file) (verdict : fileVerdict file ≡ Acce
   rows-sound : (buffer : List ℕ) → length file ≤ length buffer → SoundRows (caseOf file .demand) rows buffer
   unfolding caseOf
   rows-sound buffer h =
-      let s = sound-file file verdict in
+      let s = sound-file file .0 verdict .head in
       let n : length us ≡ count file = length-each (count file) (unitAt file) in
       let long : length file ≡ fileLength us = ap length (sym (file-case-file file b verdict)) ∙ length-file (demand file) us (accepted-units file verdict) in
       record {

@@ -1,5 +1,5 @@
 -- A unit and its body: each is read back from the other, and the body of a sound unit is accepted.
-use Prim.Native.Nat.{ℕ, _+_, _*_, _^_, _<_}
+use Prim.Native.Nat.{ℕ, _+_, _*_, _^_, _<_, _≤_}
 use native.Mathlib.Decide.{decLt}
 use native.Mathlib.Omega.{arith}
 use mathlib.Core.Path.{_≡_, refl, sym, ap, _∙_}
@@ -9,13 +9,14 @@ use lib.Seq.{take-all, length-take-le, getD-take}
 use borrow.Author.Tests.{lt-ltb, le-ltb}
 use Rattle.fields.specs.Field.{Bytes, field, bytesOfEach}
 use Rattle.rules.specs.Lists.{each}
-use Rattle.rules.specs.Layout.{Unit, edgeOfBody, unitOfBody, bodyLength, bodyOfUnit}
-use Rattle.rules.specs.Refusal.{bodyVerdict}
+use Rattle.rules.specs.Unit.{Unit}
+use Rattle.rules.specs.Layout.{edgeOfBody, unitOfBody, bodyLength, bodyOfUnit}
+use Rattle.rules.specs.Refusal.{unitVerdict, bodyVerdict}
 use Rattle.rules.specs.declared.Verdict.the-variants.{Accepted}
 use Rattle.rules.proofs.Lists.{Every, every-from, each-same, each-take, take-each, accepts}
 use Rattle.rules.proofs.Sound.{Sound, sound, sound-accepted, edge-small}
-use Rattle.rules.proofs.Pieces.{Piece, Fits, spell, place, piece, read-piece, read-behind, length-spell, spell-pieces, read-each, length-each-bytes, each-again}
-use Rattle.rules.proofs.Rows.{EightEdges}
+use Rattle.rules.proofs.Encoding.Pieces.{Piece, Fits, spell, place, piece, read-piece, read-behind, length-spell, spell-pieces, read-each, length-each-bytes, each-again}
+use Rattle.rules.proofs.Encoding.Rows.{EightEdges}
 
 -- a unit that a file can hold
 pub record Packable (u : Unit) : Type 0 where
@@ -115,14 +116,21 @@ pub body-eight : (s : List ℕ) → EightEdges (unitOfBody s)
 unfolding unitOfBody
 body-eight s = refl
 
+pub record SoundBody (s : List ℕ) : Type 0 where
+  pub zones : unitOfBody s .zoneCount ≤ 4
+  pub size : length s ≡ bodyLength (unitOfBody s .zoneCount)
+  pub unit : unitVerdict (unitOfBody s) ≡ Accepted
+
 module _ (s : List ℕ) (e : bodyVerdict s ≡ Accepted) where
-  pub body-packable : Packable (unitOfBody s)
+  pub sound-body : SoundBody s
   unfolding bodyVerdict
-  body-packable = let (size, unit) = simp accepts at e in record { sound = sound (unitOfBody s) unit; eight = body-eight s }
+  sound-body = let ((zones, size), unit) = simp accepts at e in record { zones = zones; size = size; unit = unit }
+
+  pub body-packable : Packable (unitOfBody s)
+  body-packable = record { sound = sound (unitOfBody s) (sound-body .unit); eight = body-eight s }
 
   pub body-length : length s ≡ bodyLength (unitOfBody s .zoneCount)
-  unfolding bodyVerdict
-  body-length = let (size, unit) = simp accepts at e in size .1
+  body-length = sound-body .size
 
   used-again : edgesInUse (unitOfBody s) ≡ each (2 * unitOfBody s .zoneCount) (λ k. field s (26 + 2 * k) 2)
   unfolding unitOfBody edgeOfBody

@@ -10,12 +10,12 @@ use lib.IntN.{ℤ, pos}
 use lib.ListN.{length}
 use lib.Signed.{_≤ℤ_}
 use borrow.Author.Tests.{leb-true, leb-false, eqb-true}
-use Rattle.rules.specs.Choice.{greatestAt}
+use Rattle.rules.specs.Numbers.{greatestAt}
 use Rattle.rules.specs.Bisection.{Found, step4, step3, search}
+use Rattle.rules.proofs.Lists.{either-way}
 use Rattle.rules.proofs.Integers.{ints}
-use Rattle.rules.proofs.Cases.{either-way, each-more}
-use Rattle.rules.proofs.Greatest.{greatest-of}
-use Rattle.rules.proofs.Duality.{Relaxation, floorAt, costs-least, zero-costs-least, net-rises, cost-rises, weak-duality, floor-falls, floor-rises, equal-net, floor-zero-not-negative}
+use Rattle.rules.proofs.Economics.Greatest.{each-more, greatest-of}
+use Rattle.rules.proofs.Economics.Duality.{Relaxation, floorAt, costs-least, zero-costs-least, net-rises, cost-rises, weak-duality, floor-falls, floor-rises, equal-net, floor-zero-not-negative}
 
 -- what is known of the multipliers evaluated so far: 0 is one of them, and none is above 65,536
 pub record Seen (ms : List ℕ) : Type 0 where
@@ -41,8 +41,8 @@ pub same-high : (k low : ℕ) → low + 2 ^ suc k ≡ (low + (low + 2 ^ suc k)) 
 same-high k low = omega arith
 
 module _ {X : Type 0} (choose : ℕ → X) (net : X → ℕ) (target : ℕ) where
-  -- between two evaluated ends: the choices of `low` do not cover, those of `high` do and are the best
-  pub record Between (low high : ℕ) (best : X) (ms : List ℕ) : Type 0 where
+  -- the ends of a bracket are evaluated: the choices of `low` do not cover, those of `high` do and are the best
+  pub record Bracket (low high : ℕ) (best : X) (ms : List ℕ) : Type 0 where
     pub seen : Seen ms
     pub low-seen : List·Memᴰ low ms
     pub high-seen : List·Memᴰ high ms
@@ -58,12 +58,12 @@ module _ {X : Type 0} (choose : ℕ → X) (net : X → ℕ) (target : ℕ) wher
     pub best-is : best ≡ choose m
 
   -- evaluating a middle
-  module _ {low middle high : ℕ} {best : X} {ms : List ℕ} (p : Between low high best ms) (h : middle ≤ high) where
+  module _ {low middle high : ℕ} {best : X} {ms : List ℕ} (p : Bracket low high best ms) (h : middle ≤ high) where
     middle-seen : Seen (middle ∷ ms)
     middle-seen = seen-more (omega (arith, p .seen .within high (p .high-seen))) (p .seen)
 
     -- covering: it is the best and the new high
-    lower-half : target ≤ net (choose middle) → Between low middle (choose middle) (middle ∷ ms)
+    lower-half : target ≤ net (choose middle) → Bracket low middle (choose middle) (middle ∷ ms)
     lower-half c =
         record {
           seen = middle-seen;
@@ -75,7 +75,7 @@ module _ {X : Type 0} (choose : ℕ → X) (net : X → ℕ) (target : ℕ) wher
         }
 
     -- not covering: it is the new low
-    upper-half : net (choose middle) < target → Between middle high best (middle ∷ ms)
+    upper-half : net (choose middle) < target → Bracket middle high best (middle ∷ ms)
     upper-half c =
         record {
           seen = middle-seen;
@@ -92,10 +92,10 @@ module _ {X : Type 0} (choose : ℕ → X) (net : X → ℕ) (target : ℕ) wher
 
   -- halving ends with equal net, or with adjacent ends
   abbrev pub Halved : Found X → Type 0
-  Halved f = ((m : ℕ) × Equal m (f .best) (f .evaluated)) ⊎ ((low : ℕ) × Between low (suc low) (f .best) (f .evaluated))
+  Halved f = ((m : ℕ) × Equal m (f .best) (f .evaluated)) ⊎ ((low : ℕ) × Bracket low (suc low) (f .best) (f .evaluated))
 
   -- by induction on the number of halvings
-  pub halving-ends : (k low : ℕ) (best : X) (ms : List ℕ) → Between low (low + 2 ^ k) best ms → Halved (step4 choose net target k low best ms)
+  pub halving-ends : (k low : ℕ) (best : X) (ms : List ℕ) → Bracket low (low + 2 ^ k) best ms → Halved (step4 choose net target k low best ms)
   unfolding step4
   halving-ends zero low best ms p =
       let e : low + 1 ≡ suc low = omega arith in
@@ -107,8 +107,8 @@ module _ {X : Type 0} (choose : ℕ → X) (net : X → ℕ) (target : ℕ) wher
       let x = choose middle in
       either-way Halved (eqb (net x) target) (λ e. inl (middle, equal-middle p h (eqb-true (net x) target e)))
       (λ e. either-way Halved (leb target (net x))
-      (λ c. halving-ends k low x (middle ∷ ms) (subst (λ (n : ℕ). Between low n x (middle ∷ ms)) (middle-is k low) (lower-half p h (leb-true target (net x) c))))
-      (λ c. halving-ends k middle best (middle ∷ ms) (subst (λ (n : ℕ). Between middle n best (middle ∷ ms)) (same-high k low) (upper-half p h (leb-false target (net x) c)))))
+      (λ c. halving-ends k low x (middle ∷ ms) (subst (λ (n : ℕ). Bracket low n x (middle ∷ ms)) (middle-is k low) (lower-half p h (leb-true target (net x) c))))
+      (λ c. halving-ends k middle best (middle ∷ ms) (subst (λ (n : ℕ). Bracket middle n best (middle ∷ ms)) (same-high k low) (upper-half p h (leb-false target (net x) c)))))
 
   -- and evaluates at most one multiplier at each halving
   pub halving-few : (k low : ℕ) (best : X) (ms : List ℕ) → length (step4 choose net target k low best ms .evaluated) ≤ length ms + k
@@ -182,7 +182,7 @@ module _ {X : Type 0} {Allowed : X → Type 0} {cost net : X → ℕ} {s target 
       }
 
   -- step 4 stops at adjacent ends
-  adjacent-ends : (f : Found X) (low : ℕ) → Between choose net target low (suc low) (f .best) (f .evaluated) → Ending f
+  adjacent-ends : (f : Found X) (low : ℕ) → Bracket choose net target low (suc low) (f .best) (f .evaluated) → Ending f
   adjacent-ends f low p =
       record {
         seen = p .seen;
@@ -252,3 +252,7 @@ module _ {X : Type 0} {Allowed : X → Type 0} {cost net : X → ℕ} {s target 
         cheapest = p .cheapest;
         few = search-few;
       }
+
+  -- where no allowed allocation has more net than the first best, the best never costs more than it
+  pub below-first : ((y : X) → Allowed y → net y ≤ net first) → cost (search choose net target first .best) ≤ cost first
+  below-first top = ⊎-elim (λ e. omega (arith, ap cost e)) (λ h. omega (arith, ap cost (h .2), costs-least r (h .0) first first-allowed (top (choose (h .0)) (r .allowed (h .0))))) (search-ends .cases)

@@ -6,7 +6,8 @@ use mathlib.Core.List.{List, [], _∷_, _++_}
 use lib.ListN.{length, getD, take, drop, length-append, length-drop, take-append-drop}
 use lib.Seq.{take-all, take-at, drop-at, drop-drop, length-take-le, take-add}
 use Rattle.rules.specs.Lists.{each}
-use Rattle.rules.specs.Layout.{Unit, unitOfRow, rowOfUnit, rowAt, unitInRow, unitsOfRows, rowsOfUnits}
+use Rattle.rules.specs.Unit.{Unit}
+use Rattle.rules.specs.Layout.{unitOfRow, rowOfUnit, rowAt, unitInRow, unitsOfRows, rowsOfUnits}
 use Rattle.rules.proofs.Lists.{Every, each-same, each-take, every-each}
 
 abbrev pub EightEdges : Unit → Type 0

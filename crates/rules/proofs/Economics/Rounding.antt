@@ -5,7 +5,7 @@ use native.Mathlib.Nat.{lt-mul-div-succ, mul-div-le, div-lt-iff-lt-mul, le-div-i
 use native.Mathlib.Omega.{arith}
 use lib.IntN.{ℤ, pos, negsuc, negℤ}
 use lib.Signed.{_≤ℤ_}
-use Rattle.rules.specs.Choice.{dividedUp}
+use Rattle.rules.specs.Numbers.{dividedUp}
 use Rattle.rules.proofs.Integers.{up, dn, Is, up-is, dn-is, ints}
 
 -- the negative of a natural

@@ -1,5 +1,5 @@
 -- A unit of document 01 as the code's struct holds it, number by number.
-use Rattle.rules.specs.Layout.{Unit}
+use Rattle.rules.specs.Unit.{Unit}
 use Rattle.unit.specs.declared.Unit as code
 
 abbrev pub unitHeld : code.Unit → Unit

@@ -7,7 +7,7 @@ use native.Mathlib.Omega.{arith}
 use lib.Dec.{eqb, leb}
 use borrow.Author.Tests.{eq-eqb, ne-eqb, le-leb, lt-leb}
 use Rattle.rules.specs.Bisection.{Found, step4, step3, search}
-use Rattle.rules.proofs.Search.{middle-is}
+use Rattle.rules.proofs.Economics.Search.{middle-is}
 
 module _ {X : Type 0} (choose : ℕ → X) (net : X → ℕ) (target : ℕ) where
   -- ---- step 4: the middle of low and low + 2 ^ (k + 1) is low + 2 ^ k

@@ -6,10 +6,10 @@ use mathlib.Core.List.{List, _∷_, map}
 use lib.Dec.{ltb, eqb}
 use lib.ListN.{length}
 use borrow.Author.Tests.{lt-ltb, le-ltb, ltb-false}
-use Rattle.rules.specs.Lists.{each}
+use Rattle.rules.specs.Lists.{each, over}
 use Rattle.rules.specs.Layout.{unitInRow, unitsOfRows, bodiesLength, fileOf}
 use Rattle.rules.specs.Refusal.{inOrder, unitVerdict}
-use Rattle.rules.specs.Calls.{PackResult, over, packVerdict, packEnds, packed}
+use Rattle.rules.specs.Calls.{PackResult, packVerdict, packEnds, packed}
 use Rattle.rules.specs.declared.Refusal.{Refusal}
 use Rattle.rules.specs.declared.Refusal.the-variants.{RowsInvalid, DemandOutOfRange, FileBufferTooShort}
 use Rattle.rules.specs.declared.Verdict.{Verdict}

@@ -6,6 +6,7 @@ use mathlib.Core.Logic.{_⊎_, inl, inr}
 use Prim.Native.Nat.{ℕ, _≤_, _<_}
 use native.Mathlib.Omega.{arith}
 use lib.IntN.{ℤ}
+use lib.ListN.{length}
 use lib.Signed.{_≤ℤ_, leZ}
 use Rattle.rules.specs.Choice.{better, leastFrom, choiceOf}
 use Rattle.rules.proofs.Integers.{ints, itself, when-le, when-gt}
@@ -78,6 +79,10 @@ pub none-among : (ps : List ℕ) → ((p : ℕ) → Among p ps → ⊥) → ps �
 none-among [] h = refl
 none-among (p ∷ ps) h = absurd (h p (inl refl))
 
+pub some-among : (p : ℕ) (ps : List ℕ) → Among p ps → 0 < length ps
+some-among p [] i = absurd i
+some-among p (q ∷ qs) i = omega arith
+
 -- each is greater than the one before, the first greater than b
 abbrev pub AscendsAbove : ℕ → List ℕ → Type 0
 AscendsAbove b [] = record {}
@@ -115,6 +120,7 @@ from f C r top (q ∷ qs) c h a =
     back p (inr (inr i)) = inr i
 
 -- the scan finds what is chosen of a list that is not empty
-pub scanned : (f : ℕ → ℤ) (p : ℕ) (ps : List ℕ) → Ascends (p ∷ ps) → Chosen f (λ q. Among q (p ∷ ps)) (choiceOf f (p ∷ ps))
+pub scanned : (f : ℕ → ℤ) (ps : List ℕ) → Ascends ps → 0 < length ps → Chosen f (λ p. Among p ps) (choiceOf f ps)
 unfolding choiceOf
-scanned f p ps a = from f (λ q. q ≡ p) p p ps (single p) (λ q e. omega arith) a
+scanned f [] a h = absurd (omega arith)
+scanned f (p ∷ ps) a h = from f (λ q. q ≡ p) p p ps (single p) (λ q e. omega arith) a

@@ -10,14 +10,15 @@ use lib.Seq.{take-at, drop-at, drop-drop, drop-length}
 use Rattle.fields.specs.Field.{Bytes, field, bytes}
 use Rattle.fields.proofs.Width.{length-bytes}
 use Rattle.rules.specs.Lists.{each}
-use Rattle.rules.specs.Layout.{Unit, unitOfBody, bodyLength, bodyOfUnit, edition, count, demand, offset, size, body, unitAt, caseOf, contentsFrom, bodiesOf, bodiesLength, fileOf}
+use Rattle.rules.specs.Unit.{Unit}
+use Rattle.rules.specs.Layout.{unitOfBody, bodyLength, bodyOfUnit, edition, count, demand, offset, size, body, unitAt, caseOf, contentsFrom, bodiesOf, bodiesLength, fileOf}
 use Rattle.rules.specs.Refusal.{start, legalSize, fileVerdict}
 use Rattle.rules.specs.Calls.{fileLength}
 use Rattle.rules.specs.declared.Verdict.the-variants.{Accepted}
 use Rattle.rules.proofs.Lists.{Every, every-at, length-each, each-same, each-from, each-getD}
-use Rattle.rules.proofs.Pieces.{Piece, Fits, spell, pieces, read-piece, read-behind, spell-pieces}
-use Rattle.rules.proofs.Body.{Packable, length-body, unit-body-unit, body-accepted}
-use Rattle.rules.proofs.SoundFile.{SoundFile, sound-file, sound-file-accepted, start-next, size-at, body-at, units-packable}
+use Rattle.rules.proofs.Encoding.Pieces.{Piece, Fits, spell, pieces, read-piece, read-behind, spell-pieces}
+use Rattle.rules.proofs.Encoding.Body.{Packable, length-body, unit-body-unit, body-accepted}
+use Rattle.rules.proofs.Encoding.SoundFile.{SoundFile, sound-file, start-next, size-at, body-at, units-packable}
 
 -- ---- where the bodies stand
 
@@ -166,20 +167,26 @@ module _ (d : ℕ) (us : List Unit) (some : 1 ≤ length us) (few : length us �
       let e = unitOfBody [] in
       let at : (i : ℕ) → i < count file → i < length us = λ i h. omega (arith, count-read) in
       record {
-        long = omega arith;
-        edition-is = edition-read;
-        count-least = omega (arith, count-read);
-        count-greatest = omega (arith, count-read);
-        demand-greatest = omega (arith, demand-read);
-        contents = omega (arith, count-read);
-        offsets = λ i h. offset-read e i (at i h) ∙ sym (start-read e i (omega (arith, count-read)));
-        sizes = λ i h. rw (size-read e i (at i h)) (legal (getD us i e .zoneCount) (every-at Packable us i e every (at i h) .sound .zoneCount));
-        ends = rw count-read (start-read e (length us) (omega arith) ∙ start-from-last (8 + 4 * length us) us ∙ sym long);
+        head =
+            record {
+              long = omega arith;
+              edition-is = edition-read;
+              count-least = omega (arith, count-read);
+              count-greatest = omega (arith, count-read);
+              demand-greatest = omega (arith, demand-read);
+            };
+        contents =
+            record {
+              room = omega (arith, count-read);
+              offsets = λ i h. offset-read e i (at i h) ∙ sym (start-read e i (omega (arith, count-read)));
+              sizes = λ i h. rw (size-read e i (at i h)) (legal (getD us i e .zoneCount) (every-at Packable us i e every (at i h) .sound .zoneCount));
+              ends = rw count-read (start-read e (length us) (omega arith) ∙ start-from-last (8 + 4 * length us) us ∙ sym long);
+            };
         bodies = λ i h. rw (body-written e i (at i h)) (body-accepted (getD us i e) (every-at Packable us i e every (at i h)));
       }
 
   pub file-accepted : fileVerdict file ≡ Accepted
-  file-accepted = sound-file-accepted file written-sound
+  file-accepted = sound-file file .1 written-sound
 
   pub case-file-case : caseOf file ≡ record { demand = d; units = us }
   unfolding caseOf
@@ -203,28 +210,28 @@ module _ {file : List ℕ} (s : SoundFile file) (b : Bytes file) where
       let us = each k (λ i. unitAt file (suc j + i)) in
       let rest = drop (8 + 4 * count file) file in
       let h : j < count file = omega arith in
-      let next : start file j + bodyLength (u .zoneCount) ≡ start file (suc j) = omega (arith, start-next s j h, size-at s j h) in
+      let next : start file j + bodyLength (u .zoneCount) ≡ start file (suc j) = omega (arith, start-next (s .contents) j h, size-at s j h) in
       let m : 8 + 4 * suc j ≡ 8 + 4 * j + 4 = omega arith in
       let later : contentsFrom (start file j + bodyLength (u .zoneCount)) us ++ rest ≡ drop (8 + 4 * j + 4) file =
       ap (λ (n : ℕ). contentsFrom n us ++ rest) next ∙ contents-again k (suc j) (omega arith) ∙ ap (λ (n : ℕ). drop n file) m in
       let l : 10 + 4 * j ≡ 8 + 4 * j + 2 = omega arith in
       let long : bodyLength (u .zoneCount) ≡ field file (8 + 4 * j + 2) 2 = sym (size-at s j h) ∙ ap (λ (n : ℕ). field file n 2) l in
       let first : entry (start file j) u ≡ pieces file (8 + 4 * j) (2 ∷ 2 ∷ []) =
-      λ i. record { width = 2; value = sym (s .offsets j h) i } ∷ record { width = 2; value = long i } ∷ [] in
+      λ i. record { width = 2; value = sym (s .contents .offsets j h) i } ∷ record { width = 2; value = long i } ∷ [] in
       ap (λ (vs : List Unit). contentsFrom (start file j) vs ++ rest) (each-from k j (unitAt file))
       ∙ contents-spelled (start file j) u us rest ∙ ap₂ spell first later
-      ∙ spell-pieces file (8 + 4 * j) (2 ∷ 2 ∷ []) (omega (arith, s .contents)) b
+      ∙ spell-pieces file (8 + 4 * j) (2 ∷ 2 ∷ []) (omega (arith, s .contents .room)) b
 
   -- the bodies from j on
   bodies-again : (k j : ℕ) → j + k ≡ count file → bodiesOf (each k (λ i. unitAt file (j + i))) ≡ drop (start file j) file
   unfolding bodiesOf
-  bodies-again zero j e = let f : j ≡ count file = omega arith in rw (f, s .ends) (sym (drop-length file))
+  bodies-again zero j e = let f : j ≡ count file = omega arith in rw (f, s .contents .ends) (sym (drop-length file))
   bodies-again (suc k) j e =
       let h : j < count file = omega arith in
       ap bodiesOf (each-from k j (unitAt file)) ∙ ap₂ (λ (x y : List ℕ). x ++ y) (body-at s b j h) (bodies-again k (suc j) (omega arith))
       ∙ ap (λ (x : List ℕ). body file j ++ x) (sym (drop-drop (size file j) (offset file j) file))
       ∙ take-append-drop (size file j) (drop (offset file j) file)
-      ∙ ap (λ (n : ℕ). drop n file) (s .offsets j h)
+      ∙ ap (λ (n : ℕ). drop n file) (s .contents .offsets j h)
 
   -- the units from 0 on
   units-from : caseOf file .units ≡ each (count file) (λ i. unitAt file (0 + i))
@@ -240,12 +247,12 @@ module _ {file : List ℕ} (s : SoundFile file) (b : Bytes file) where
       let behind : contentsFrom (8 + 4 * length us) us ++ bodiesOf us ≡ drop 8 file =
       ap₂ (λ (m : ℕ) (x : List ℕ). contentsFrom (8 + 4 * m) us ++ x) n (bodies-again (count file) 0 all) ∙ contents-again (count file) 0 all in
       let first : headOf (demand file) us ≡ pieces file 0 (2 ∷ 2 ∷ 4 ∷ []) =
-      λ i. record { width = 2; value = sym (s .edition-is) i } ∷ record { width = 2; value = n i } ∷ record { width = 4; value = demand file } ∷ [] in
+      λ i. record { width = 2; value = sym (s .head .edition-is) i } ∷ record { width = 2; value = n i } ∷ record { width = 4; value = demand file } ∷ [] in
       ap (fileOf (demand file)) units-from ∙ file-spelled (demand file) us ∙ ap₂ spell first behind
-      ∙ spell-pieces file 0 (2 ∷ 2 ∷ 4 ∷ []) (omega (arith, s .long)) b
+      ∙ spell-pieces file 0 (2 ∷ 2 ∷ 4 ∷ []) (omega (arith, s .head .long)) b
 
 pub file-case-file : (file : List ℕ) → Bytes file → fileVerdict file ≡ Accepted → fileOf (caseOf file .demand) (caseOf file .units) ≡ file
-file-case-file file b e = sound-file-again (sound-file file e) b
+file-case-file file b e = sound-file-again (sound-file file .0 e) b
 
 pub accepted-units : (file : List ℕ) → fileVerdict file ≡ Accepted → Every Packable (caseOf file .units)
-accepted-units file e = units-packable (sound-file file e)
+accepted-units file e = units-packable (sound-file file .0 e)

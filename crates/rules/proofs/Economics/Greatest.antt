@@ -1,14 +1,19 @@
 -- The greatest that a function has at some multipliers: it has it at one of them, and nothing greater at any of them.
-use mathlib.Core.Path.{_≡_, refl}
+use mathlib.Core.Path.{_≡_, refl, sym, subst}
 use mathlib.Core.Bool.{cond}
 use mathlib.Core.List.{List, [], _∷_, List·Memᴰ, List·Memᴰ·head, List·Memᴰ·tail, List·Memᴰ·not-nil}
 use Prim.Native.Nat.{ℕ}
 use native.Mathlib.Omega.{arith}
 use lib.IntN.{ℤ}
 use lib.Signed.{leZ, _≤ℤ_, ≤ℤ-refl}
-use Rattle.rules.specs.Choice.{greatestAt}
-use Rattle.rules.proofs.Cases.{either-way, each-more}
+use Rattle.rules.specs.Numbers.{greatestAt}
+use Rattle.rules.proofs.Lists.{either-way}
 use Rattle.rules.proofs.Integers.{ints, itself, when-le, when-gt}
+
+-- what holds of a number and of each of a list holds of each of both
+pub each-more : (P : ℕ → Type 0) {n : ℕ} {ms : List ℕ} → P n → ((m : ℕ) → List·Memᴰ m ms → P m) → (m : ℕ) → List·Memᴰ m (n ∷ ms) → P m
+each-more P p q m (List·Memᴰ·head e) = subst P (sym e) p
+each-more P p q m (List·Memᴰ·tail h) = q m h
 
 -- z is the value of f at one of the numbers, and at least its value at each
 pub record Greatest (f : ℕ → ℤ) (ms : List ℕ) (z : ℤ) : Type 0 where

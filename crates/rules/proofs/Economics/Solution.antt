@@ -1,0 +1,115 @@
+-- The law of the search, of any problem with proper offers that step 1 accepts; and demand 3 of the reply that the rules give for a case.
+use mathlib.Core.Path.{_≡_, refl, ap, _∙_}
+use mathlib.Core.Bool.{true}
+use mathlib.Core.List.{List}
+use Prim.Native.Nat.{ℕ, _+_, _*_, _-_, _≤_}
+use native.Mathlib.Omega.{arith}
+use lib.IntN.{ℤ, pos, _-ℤ_}
+use lib.Signed.{_≤ℤ_}
+use borrow.Author.Tests.{leb-true, le-leb}
+use Rattle.rules.specs.Numbers.{natural}
+use Rattle.rules.specs.Unit.{Unit}
+use Rattle.rules.specs.Layout.{Case}
+use Rattle.rules.specs.Problem.{totalCost, totalNet, covers, Problem, unitsOf, target, problemOf}
+use Rattle.rules.specs.Choice.{selected, dualValue, floor, greatestFloor}
+use Rattle.rules.specs.Bisection.{Found, greatestOutputs, solvable, found, replyOf, solve}
+use Rattle.rules.specs.Promise.{Permitted, Covering, costLessGap, ReplyPromise}
+use Rattle.rules.proofs.Lists.{Every}
+use Rattle.rules.proofs.Integers.{up, dn, is-pos, is-minus, up-is, same, itself, ints}
+use Rattle.rules.proofs.Sound.{Sound}
+use Rattle.rules.proofs.Economics.Totals.{units-of-problem}
+use Rattle.rules.proofs.Economics.Allocations.{Given, Proper, relaxation, selected-tied, greatest-given}
+use Rattle.rules.proofs.Economics.Search.{Searched, searched}
+use Rattle.rules.proofs.Economics.Solvable.{given-allocation, allocation-given, solvable-available, solvable-covers, case-proper}
+
+-- a gap that is not negative is exact
+pub natural-up : (z : ℤ) → natural z ≡ up z
+unfolding natural up
+natural-up (pos n) = refl
+natural-up (lib.IntN.negsuc n) = refl
+
+gap-exact : (n : ℕ) (z : ℤ) → z ≤ℤ pos n → pos n -ℤ pos (natural (pos n -ℤ z)) ≡ z
+gap-exact n z h =
+    let d = is-minus (is-pos n) (itself z) in
+    let e : natural (pos n -ℤ z) ≡ n + dn z - (0 + up z) = natural-up (pos n -ℤ z) ∙ up-is d in
+    let b : up z + 0 ≤ n + dn z = omega (arith, ints, is-pos n) in
+    same (is-minus (is-pos n) (is-pos (natural (pos n -ℤ z)))) (itself z) (omega (arith, e))
+
+-- ---- of a problem
+
+module _ (q : Problem) (proper : Every Proper (q .offers)) (solves : solvable q ≡ true) where
+  abbrev Shown : Found (List ℕ) → Type 0
+  Shown = Searched (Given (q .offers)) (totalCost (unitsOf q)) (totalNet (unitsOf q)) 100000 (target q) (λ m. selected m q) (λ m. dualValue m q) (greatestOutputs q)
+
+  -- what the search finds
+  shown : Shown (found q)
+  unfolding found greatestOutputs
+  shown =
+      let available = solvable-available q proper solves in
+      searched (relaxation q available (λ m. selected m q) (selected-tied q available)) (greatestOutputs q) (greatest-given (q .offers) available) (solvable-covers q proper solves)
+
+  -- what the reply's subtractions need: the best covers, and costs at least the greatest floor, which is not negative
+  pub best-covers : target q ≤ totalNet (unitsOf q) (found q .best)
+  best-covers = shown .covers
+
+  pub floor-at-most-cost : greatestFloor q (found q .evaluated) ≤ℤ pos (totalCost (unitsOf q) (found q .best))
+  unfolding floor
+  floor-at-most-cost = shown .bound (found q .best) (shown .allowed) (shown .covers)
+
+  pub greatest-floor-not-negative : pos 0 ≤ℤ greatestFloor q (found q .evaluated)
+  unfolding floor
+  greatest-floor-not-negative = shown .notNegative
+
+  -- "the reply's cost minus its gap" is the greatest floor evaluated
+  difference : costLessGap (solve q) ≡ greatestFloor q (found q .evaluated)
+  unfolding solve replyOf
+  difference = gap-exact (totalCost (unitsOf q) (found q .best)) (greatestFloor q (found q .evaluated)) floor-at-most-cost
+
+  pub floor-not-negative : pos 0 ≤ℤ costLessGap (solve q)
+  floor-not-negative = rw difference greatest-floor-not-negative
+
+-- ---- of a case
+
+module _ (c : Case) where
+  -- cost and net of a case's problem are those of the case
+  same-cost : (ps : List ℕ) → totalCost (unitsOf (problemOf c)) ps ≡ totalCost (c .units) ps
+  same-cost ps = ap (λ (us : List Unit). totalCost us ps) (units-of-problem c)
+
+  same-net : (ps : List ℕ) → totalNet (unitsOf (problemOf c)) ps ≡ totalNet (c .units) ps
+  same-net ps = ap (λ (us : List Unit). totalNet us ps) (units-of-problem c)
+
+  same-target : target (problemOf c) ≡ 100000000 * c .demand
+  unfolding problemOf
+  same-target = refl
+
+  pub covering-net : (ps : List ℕ) → Covering c ps → target (problemOf c) ≤ totalNet (unitsOf (problemOf c)) ps
+  covering-net ps h = omega (arith, leb-true (100000000 * c .demand) (totalNet (c .units) ps) h, same-net ps, same-target)
+
+  pub permitted-given : (ps : List ℕ) → Permitted c ps → Given (problemOf c .offers) ps
+  unfolding problemOf
+  permitted-given ps h = allocation-given (c .units) ps h
+
+  given-permitted : (ps : List ℕ) → Given (problemOf c .offers) ps → Permitted c ps
+  unfolding problemOf
+  given-permitted ps h = given-allocation (c .units) ps h
+
+pub reply-promise : (c : Case) → Every Sound (c .units) → solvable (problemOf c) ≡ true → ReplyPromise c (solve (problemOf c))
+unfolding solve replyOf floor
+reply-promise c s solves =
+    let q = problemOf c in
+    let best = found q .best in
+    let proper = case-proper c s in
+    let law = shown q proper solves in
+    let exact = difference q proper solves in
+    record {
+      bisection = refl;
+      permitted = given-permitted c best (law .allowed);
+      covering = le-leb (100000000 * c .demand) (totalNet (c .units) best) (omega (arith, law .covers, same-net c best, same-target c));
+      cost = same-cost c best;
+      surplus = omega (arith, law .covers, same-net c best, same-target c);
+      nobodySpendsLess = λ ps a h. rw (exact, ← same-cost c ps) (law .bound ps (permitted-given c ps a) (covering-net c ps h));
+      greatestFloor = rw exact (record { one = law .one; greatest = law .greatest });
+      cheapest = λ m k h. omega (arith, law .cheapest m k (covering-net c (selected m q) h), same-cost c (selected m q));
+      evaluations = refl;
+      atMost18 = law .few;
+    }

@@ -1,0 +1,120 @@
+-- An accepted file is a sound one: `fileVerdict file ≡ Accepted` as facts of its fields, both ways.
+use Prim.Native.Nat.{ℕ, zero, suc, _+_, _-_, _*_, _≤_, _<_}
+use native.Mathlib.Omega.{arith}
+use mathlib.Core.Path.{_≡_, sym, ap, _∙_}
+use mathlib.Core.Logic.{_↔_}
+use mathlib.Core.Bool.{true}
+use mathlib.Core.List.{List}
+use lib.ListN.{length, drop, length-drop}
+use lib.Seq.{length-take-le}
+use Rattle.fields.specs.Field.{Bytes}
+use Rattle.fields.proofs.Width.{bytes-part}
+use Rattle.rules.specs.Lists.{each}
+use Rattle.rules.specs.Layout.{bodyLength, bodyOfUnit, edition, count, demand, offset, size, body, unitAt, caseOf}
+use Rattle.rules.specs.Refusal.{_then_, inOrder, start, legalSize, entryFits, headVerdict, contentsVerdict, bodyVerdict, fileVerdict}
+use Rattle.rules.specs.declared.Verdict.{Verdict}
+use Rattle.rules.specs.declared.Verdict.the-variants.{Accepted}
+use Rattle.rules.proofs.Lists.{Every, every-each, every-more, all-each, then-accepted, in-order-each, accepts}
+use Rattle.rules.proofs.Sound.{Sound}
+use Rattle.rules.proofs.Encoding.Body.{Packable, body-packable, body-length, body-unit-body}
+
+-- ---- place by place
+
+pub record SoundHead (file : List ℕ) : Type 0 where
+  pub long : 8 ≤ length file
+  pub edition-is : edition file ≡ 1
+  pub count-least : 1 ≤ count file
+  pub count-greatest : count file ≤ 32
+  pub demand-greatest : demand file ≤ 320000
+
+pub record SoundContents (file : List ℕ) : Type 0 where
+  pub room : 8 + 4 * count file ≤ length file
+  pub offsets : (i : ℕ) → i < count file → offset file i ≡ start file i
+  pub sizes : (i : ℕ) → i < count file → legalSize (size file i) ≡ true
+  pub ends : start file (count file) ≡ length file
+
+pub record SoundFile (file : List ℕ) : Type 0 where
+  pub head : SoundHead file
+  pub contents : SoundContents file
+  pub bodies : (i : ℕ) → i < count file → bodyVerdict (body file i) ≡ Accepted
+
+module _ (file : List ℕ) where
+  pub sound-head : (headVerdict file ≡ Accepted) ↔ SoundHead file
+  unfolding headVerdict
+  sound-head = (
+    λ e.
+        let (long, (edition, ((least, greatest), demand))) = simp accepts at e in
+        record { long = long; edition-is = edition; count-least = least; count-greatest = greatest; demand-greatest = demand },
+    λ s. simp accepts (s .long, (s .edition-is, ((s .count-least, s .count-greatest), s .demand-greatest))),
+  )
+
+  entry-fits : (i : ℕ) → (entryFits file i ≡ true) ↔ ((offset file i ≡ start file i) × (legalSize (size file i) ≡ true))
+  entry-fits i = (λ e. simp accepts at e, λ p. simp accepts p)
+
+  pub sound-contents : (contentsVerdict file ≡ Accepted) ↔ SoundContents file
+  unfolding contentsVerdict
+  sound-contents = (
+    λ e.
+        let ((room, entries), ends) = simp accepts at e in
+        let fit = all-each (entryFits file) (count file) (λ i. i) .0 entries in
+        record { room = room; offsets = λ i h. entry-fits i .0 (fit i h) .0; sizes = λ i h. entry-fits i .0 (fit i h) .1; ends = ends },
+    λ s.
+        let entries = all-each (entryFits file) (count file) (λ i. i) .1 (λ i h. entry-fits i .1 (s .offsets i h, s .sizes i h)) in
+        simp accepts ((s .room, entries), s .ends),
+  )
+
+  pub sound-file : (fileVerdict file ≡ Accepted) ↔ SoundFile file
+  unfolding fileVerdict
+  sound-file =
+      let verdict : ℕ → Verdict = λ i. bodyVerdict (body file i) in
+      let rest = contentsVerdict file then inOrder (each (count file) verdict) in
+      let bodies = in-order-each (count file) verdict in (
+        λ e.
+            let (head, behind) = then-accepted (headVerdict file) rest .0 e in
+            let (contents, last) = then-accepted (contentsVerdict file) (inOrder (each (count file) verdict)) .0 behind in
+            record { head = sound-head .0 head; contents = sound-contents .0 contents; bodies = bodies .0 last },
+        λ s.
+            then-accepted (headVerdict file) rest .1 (
+              sound-head .1 (s .head),
+              then-accepted (contentsVerdict file) (inOrder (each (count file) verdict)) .1 (sound-contents .1 (s .contents), bodies .1 (s .bodies)),
+            ),
+      )
+
+-- ---- the bodies
+
+module _ {file : List ℕ} (s : SoundContents file) where
+  -- each body starts where the one before ends
+  pub start-next : (i : ℕ) → i < count file → start file (suc i) ≡ start file i + size file i
+  start-next i h = ap (λ (n : ℕ). n + size file i) (s .offsets i h)
+
+  start-within : (i k : ℕ) → i + k ≡ count file → start file i ≤ length file
+  start-within i zero e = let f : i ≡ count file = omega arith in rw f (omega (arith, s .ends))
+  start-within i (suc k) e = omega (arith, start-next i (omega arith), start-within (suc i) k (omega arith))
+
+  -- and ends within the file
+  pub body-within : (i : ℕ) → i < count file → offset file i + size file i ≤ length file
+  body-within i h =
+      omega (arith, s .offsets i h, start-next i h, start-within (suc i) (count file - suc i) (omega arith))
+
+  pub length-body-at : (i : ℕ) → i < count file → length (body file i) ≡ size file i
+  length-body-at i h =
+      length-take-le (size file i) (drop (offset file i) file) (simp length-drop (omega (arith, body-within i h)))
+
+module _ {file : List ℕ} (s : SoundFile file) where
+  pub unit-at-packable : (i : ℕ) → i < count file → Packable (unitAt file i)
+  unit-at-packable i h = body-packable (body file i) (s .bodies i h)
+
+  pub size-at : (i : ℕ) → i < count file → size file i ≡ bodyLength (unitAt file i .zoneCount)
+  size-at i h = sym (length-body-at (s .contents) i h) ∙ body-length (body file i) (s .bodies i h)
+
+  pub body-at : Bytes file → (i : ℕ) → i < count file → bodyOfUnit (unitAt file i) ≡ body file i
+  body-at b i h = body-unit-body (body file i) (s .bodies i h) (bytes-part file (offset file i) (size file i) b)
+
+  -- every unit of an accepted file is sound and has eight edges
+  pub units-packable : Every Packable (caseOf file .units)
+  unfolding caseOf
+  units-packable = every-each Packable (count file) (unitAt file) unit-at-packable
+
+-- every unit of an accepted file is sound
+pub units-sound : (file : List ℕ) → fileVerdict file ≡ Accepted → Every Sound (caseOf file .units)
+units-sound file e = every-more Packable Sound (λ u p. p .sound) (caseOf file .units) (units-packable (sound-file file .0 e))
