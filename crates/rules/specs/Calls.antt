@@ -7,8 +7,8 @@ use lib.Dec.{ltb, eqb}
 use lib.IntN.{ℤ, pos}
 use lib.ListN.{length}
 use Rattle.fields.specs.Field.{bytes, bytesOfEach}
-use Rattle.rules.specs.Unit.{Unit}
 use Rattle.rules.specs.Lists.{over}
+use Rattle.rules.specs.Unit.{Unit}
 use Rattle.rules.specs.Layout.{caseOf, unitsOfRows, rowsOfUnits, bodiesLength, fileOf}
 use Rattle.rules.specs.Refusal.{numberOf, _refuses_, _then_, inOrder, fileVerdict, unitVerdict}
 use Rattle.rules.specs.Problem.{problemIn, unitsOf, totalNet, covers}
