@@ -15,7 +15,8 @@ use Rattle.rules.specs.declared.Refusal.the-variants.{RowsInvalid, DemandOutOfR
 use Rattle.rules.specs.declared.Verdict.{Verdict}
 use Rattle.rules.specs.declared.Verdict.the-variants.{Accepted, Refused}
 use Rattle.rules.specs.declared.Packed.{Packed}
-use Rattle.rules.proofs.Lists.{or-false, length-each, in-order-accepted, each-every}
+use Rattle.rules.proofs.Lists.{length-each, each-every}
+use Rattle.rules.proofs.Verdicts.{or-false, in-order-accepted}
 use Rattle.packing.specs.Required.{RowsSound}
 use Rattle.packing.proofs.Lengths.{length-rows-file}
 

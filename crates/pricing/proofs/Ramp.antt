@@ -7,7 +7,7 @@ use native.Mathlib.Omega.{arith}
 use lib.Dec.{leb}
 use borrow.Author.Tests.{lt-ltb, le-ltb, leb-true, le-leb}
 use Rattle.rules.specs.Unit.{Unit}
-use Rattle.rules.proofs.Lists.{and-true}
+use Rattle.rules.proofs.Verdicts.{and-true}
 use Rattle.pricing.specs.Offering.{Windowed}
 
 module _ {u : Unit} where

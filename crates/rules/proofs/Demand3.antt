@@ -17,7 +17,8 @@ use Rattle.rules.specs.Promise.{Promise, Demand3}
 use Rattle.rules.specs.declared.Refusal.the-variants.{NoAllocation}
 use Rattle.rules.specs.declared.Verdict.{Verdict}
 use Rattle.rules.specs.declared.Dispatched.{Dispatched}
-use Rattle.rules.proofs.Lists.{Every, and-true, every-more, length-each, accepts}
+use Rattle.rules.proofs.Lists.{Every, every-more, length-each}
+use Rattle.rules.proofs.Verdicts.{and-true, accepts}
 use Rattle.rules.proofs.Integers.{ints, is-pos, is-minus}
 use Rattle.rules.proofs.Sound.{Sound}
 use Rattle.rules.proofs.Encoding.SoundFile.{sound-file, units-sound}
@@ -79,9 +80,6 @@ module _ (file reply : List ℕ) (accepted : fileVerdict file ≡ Verdict.Accept
   unfolding dispatchVerdict caseVerdict
   verdict-is = rw (le-ltb (length reply) 92 long, accepted)
 
-  sounds : Every Sound (caseOf file .units)
-  sounds = units-sound file accepted
-
   few : length (caseOf file .units) ≤ 32
   unfolding caseOf
   few = rw length-each (sound-file file .0 accepted .head .count-greatest)
@@ -96,14 +94,14 @@ module _ (file reply : List ℕ) (accepted : fileVerdict file ≡ Verdict.Accept
 
     length-out : length out ≡ 28 + 2 * length (caseOf file .units)
     unfolding out
-    length-out = length-reply (solve (problemOf (caseOf file))) ∙ ap (λ (n : ℕ). 28 + 2 * n) (reply-count (caseOf file) sounds few solves)
+    length-out = length-reply (solve (problemOf (caseOf file))) ∙ ap (λ (n : ℕ). 28 + 2 * n) (reply-count (caseOf file) (units-sound file accepted) few solves)
 
     promise-replied : Promise file (dispatched file reply)
     unfolding out
     promise-replied =
         let c = caseOf file in
-        let p = reply-promise c sounds solves in
-        let spelled = reply-spelled (solve (problemOf c)) (reply-fits c sounds few solves) reply in
+        let p = reply-promise c (units-sound file accepted) solves in
+        let spelled = reply-spelled (solve (problemOf c)) (reply-fits c (units-sound file accepted) few solves) reply in
         rw replied
         (record {
           refuses = ((λ e. absurd (let z : _≡_ {A = ℕ} 0 1 = cc in omega arith)), λ none. absurd (none (solve (problemOf c) .outputs) (p .permitted) (p .covering)));
@@ -122,7 +120,7 @@ module _ (file reply : List ℕ) (accepted : fileVerdict file ≡ Verdict.Accept
         let c = caseOf file in
         rw refused
         (record {
-          refuses = ((λ _ ps a k. omega (arith, unsolvable (problemOf c) (case-proper c sounds) fails ps (permitted-given c ps a), covering-net c ps k)), λ _. refl);
+          refuses = ((λ _ ps a k. omega (arith, unsolvable (problemOf c) (case-proper c (units-sound file accepted)) fails ps (permitted-given c ps a), covering-net c ps k)), λ _. refl);
           replies = λ n. absurd (n refl);
           reply = λ n. absurd (n refl);
         })

@@ -32,7 +32,8 @@ use Rattle.rules.specs.declared.Verdict.{Verdict}
 use Rattle.rules.specs.declared.Verdict.the-variants.{Accepted, Refused}
 use Rattle.rules.specs.declared.Dispatched.{Dispatched}
 use Rattle.rules.specs.declared.Packed.{Packed}
-use Rattle.rules.proofs.Lists.{Every, length-each, then-accepted}
+use Rattle.rules.proofs.Lists.{Every, length-each}
+use Rattle.rules.proofs.Verdicts.{then-accepted}
 use Rattle.rules.proofs.Encoding.Body.{Packable}
 use Rattle.rules.proofs.Encoding.SoundFile.{sound-file, units-sound}
 use Rattle.rules.proofs.Encoding.RoundTrip.{length-file}

@@ -1,4 +1,5 @@
 pub mod Lists
+pub mod Verdicts
 pub mod Each
 pub mod Integers
 pub mod Sound

@@ -12,7 +12,8 @@ use borrow.Author.Tests.{eqb-true, eq-eqb}
 use Rattle.rules.specs.Unit.{Unit, Zone, zoneAt, zones}
 use Rattle.rules.specs.Refusal.{zonesAscend, unusedEdgesZero, unitVerdict}
 use Rattle.rules.specs.declared.Verdict.the-variants.{Accepted}
-use Rattle.rules.proofs.Lists.{Every, every-from, each-every, every-more, all-every, accepts}
+use Rattle.rules.proofs.Lists.{Every, every-from, each-every, every-more, all-every}
+use Rattle.rules.proofs.Verdicts.{accepts}
 
 pub record Sound (u : Unit) : Type 0 where
   pub zoneCount : u .zoneCount ≤ 4

@@ -1,5 +1,5 @@
 -- Document 01, "Choice, floor, bisection", first paragraph: Lagrangian relaxation of the demand at a whole multiplier m, 0 to 65,536, in hundredths of the currency per MWh.
-use Prim.Native.Nat.{ℕ, _+_, _*_, _-_}
+use Prim.Native.Nat.{ℕ, _+_, _*_}
 use mathlib.Core.Bool.{cond}
 use mathlib.Core.List.{List, [], _∷_, map}
 use lib.IntN.{ℤ, pos, subℕ, _+ℤ_}

@@ -60,6 +60,7 @@ pub record ReplyPromise (c : Case) (r : Reply) : Type 0 where
   -- "That difference equals the greatest of the floors of all whole multipliers from 0 to 65,536."
   pub greatestFloor : GreatestFloor (problemOf c) (costLessGap r)
   -- "Whichever of these multipliers is taken, if its choices cover the demand, they cost at least as much as the reply."
+  -- (What the evaluation of a multiplier takes is `Choice.selected`: its choices.)
   pub cheapest : (m : ℕ) → m ≤ 65536 → Covering c (selected m (problemOf c)) → r .cost ≤ totalCost (c .units) (selected m (problemOf c))
   -- "The reply's evaluations are exactly as many as document 01's bisection makes for that file, never above 18."
   pub evaluations : r .evaluations ≡ length (found (problemOf c) .evaluated)

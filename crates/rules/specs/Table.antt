@@ -1,5 +1,5 @@
 -- Document 01, "Dispatches to be proved": its cases and both pricings as one table, from the file's bytes to the reply's, and one theorem.
--- The other lists tell apart rules which the paper's table does not: `further` (dispatches, pricings, packings, unpackings), `limits` (the last accepted value of each field and the first refused one), `refusals` (each number from each call that gives it), `orders` (an input that breaks two rules gets the number of the earlier check), `panelForms` (the calls as C sees them), `searches` (steps 2 to 4 by themselves). Above each of their rows stands the wrong rule that it shows. Where a reader and a writer could be wrong alike, the bytes and the rows are spelled out.
+-- The other lists tell apart rules which the paper's table does not: `further` (dispatches, pricings, packings, unpackings), `limits` (the last accepted value of each field and the first refused one), `refusals` (each number from each call that gives it), `orders` (an input that breaks two rules gets the number of the earlier check), `panelForms` (the calls as C sees them), `searches` (steps 2 to 4 by themselves). Above each of their rows stands the wrong rule that it shows, in `refusals` what is refused. Where a reader and a writer could be wrong alike, the bytes and the rows are spelled out.
 use Prim.Native.Nat.{ℕ, _+_, _*_}
 use mathlib.Core.Bool.{Bool, true, false}
 use mathlib.Core.List.{List, [], _∷_, _++_, map}
@@ -21,7 +21,7 @@ use Rattle.rules.specs.declared.Packed.{Packed}
 use Rattle.rules.specs.declared.Priced.{Priced}
 use Rattle.rules.specs.declared.Unpacked.{Unpacked}
 
--- ---- a call, and what it answers. A lent buffer has 92 bytes, 255 in each, so that an untouched byte shows; a refusal is its number.
+-- ---- a call, and what it answers. A lent buffer has 92 bytes, 255 in each, where the call does not name one, so that an untouched byte shows; a refusal is its number.
 
 pub data Call : Type 0 where
   dispatch : List ℕ → Call
@@ -282,15 +282,13 @@ further =
     ∷ record { call = dispatch (site 27); result = refuses 11 buffer }
     -- c0 left out, or at output 0
     ∷ record { call = dispatch (site 0); result = reply (7 ∷ 0 ∷ []) 169007 0 1 699999853 }
-    -- one zone, or one kind of unit
+    -- the second zone left out, or one kind of unit
     ∷ record { call = dispatch (site 23); result = reply (13 ∷ 12 ∷ []) 626747 67999 18 199999349 }
-    -- a window that ends below previous + up
-    ∷ record { call = dispatch (site 26); result = reply (15 ∷ 12 ∷ []) 702747 38999 18 99999181 }
-    -- the reply's layout with more than one unit, in the bytes' writer and in this table alike
+    -- a window that ends below previous + up; the reply's layout with more than one unit, in the bytes' writer and in this table alike
     ∷ record { call = dispatch (site 26); result = writes 32 (siteReply ++ replicate 60 255) }
     -- bytes past the reply moved or changed
     ∷ record { call = dispatchInto u5 (each 95 (λ k. k)); result = writes 30 (u5Reply ++ each 65 (λ k. 30 + k)) }
-    -- a tie at m 21 that is one at m 20 too
+    -- the upper edge taken wherever the vertex lies in a zone
     ∷ record { call = price u5 20; result = values (pos 7600000000) false }
     -- pricing asks cover of d + 1, or a net above the demand
     ∷ record { call = price (fileOf 10 (U ∷ [])) 65536; result = values (pos 20000000000) true }
@@ -342,8 +340,6 @@ limits =
     ∷ record { call = check (put 32 (0x27 ∷ 0x11 ∷ []) atLimits); result = checks 10 }
     -- mark 2
     ∷ record { call = check (put 34 (0x00 ∷ 0x02 ∷ []) atLimits); result = checks 10 }
-    -- a fifth zone
-    ∷ record { call = check (put 36 (0x00 ∷ 0x05 ∷ []) atLimits); result = checks 7 }
     -- a zone without length
     ∷ record { call = check (put 40 (0x00 ∷ 0x02 ∷ []) atLimits); result = checks 9 }
     -- zones that share an edge
@@ -364,7 +360,7 @@ limits =
     ∷ record { call = check (take 75 (put 12 (0x00 ∷ 0x31 ∷ []) (site 26))); result = checks 6 }
     -- the file's end not held against the last body's, below it
     ∷ record { call = check (take 41 u5); result = checks 6 }
-    -- a zone of the second unit not read
+    -- the second unit's z not held against its length
     ∷ record { call = check (put 74 (0x00 ∷ 0x01 ∷ []) (site 26)); result = checks 7 }
     -- 608 numbers not accepted (9, not 12: least is 0)
     ∷ record { call = pack 5 (replicate 608 0); result = refuses 9 buffer }
@@ -419,7 +415,7 @@ refusals =
     ∷ record { call = price edgeAtLeast 0; result = refuses 9 [] }
     -- pricing of mark 2
     ∷ record { call = price otherMark 0; result = refuses 10 [] }
-    -- pricing without step 1
+    -- pricing of a demand that nothing covers
     ∷ record { call = price (put 7 (0x0B ∷ []) u5) 0; result = refuses 11 [] }
     -- unpacking into 607 numbers
     ∷ record { call = unpackInto u5 (replicate 607 9); result = refuses 1 (replicate 607 9) }
@@ -597,8 +593,3 @@ panel-forms-hold = refl
 pub searches-hold : map (λ r. answer (r .call)) searches ≡ map (λ r. r .result) searches
 unfolding answer searches
 searches-hold = refl
-
--- step 3 without cover: the first best, after two evaluations
-pub uncovered-holds : search (λ m. m * 0) (λ n. n) 5 9 ≡ record { best = 9; evaluated = 65536 ∷ 0 ∷ [] }
-unfolding step3 search
-uncovered-holds = refl

@@ -1,4 +1,4 @@
--- Demand 2, "Rows become case files and files become rows by document 01's layout, each undoing the other", and Item 1, "a zone is obeyed or its file refused", as statements. (They are proved in proofs/Undo and proofs/Obeyed.)
+-- Demand 2, "Rows become case files and files become rows by document 01's layout, each undoing the other", and Item 1, "a zone is obeyed or its file refused", as statements. (They are proved in proofs/Encoding/Undo and proofs/Obeyed.)
 use Prim.Native.Nat.{ℕ, _+_, _*_, _/_, _≤_, _<_}
 use mathlib.Core.Bool.{false}
 use mathlib.Core.List.{List}

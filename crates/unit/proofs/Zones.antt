@@ -6,7 +6,7 @@ use mathlib.Core.List.{List}
 use lib.Dec.{ltb}
 use lib.ListN.{getD, drop}
 use borrow.Author.Tests.{lt-ltb, le-ltb}
-use Rattle.rules.specs.Lists.{each, all}
+use Rattle.rules.specs.Lists.{each}
 use Rattle.rules.specs.Unit.{zoneAt}
 use Rattle.rules.specs.Refusal.{zonesAscend}
 use Rattle.rules.proofs.Each.{rest-ends, rest-more}

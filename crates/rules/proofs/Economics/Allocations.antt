@@ -44,7 +44,8 @@ LeastPriced m o p = pricedCost m (o .unit) p ≡ leastPricedCost m o
 abbrev pub Tied : ℕ → List Offer → List ℕ → Type 0
 Tied m = Pairwise (λ o p. Among p (o .outputs) × LeastPriced m o p)
 
-chosen : (m : ℕ) {o : Offer} → Available o → Chosen (pricedCost m (o .unit)) (λ p. Among p (o .outputs)) (choice m o)
+-- a unit's choice is offered, of least priced cost, and the greatest on a tie
+pub chosen : (m : ℕ) {o : Offer} → Available o → Chosen (pricedCost m (o .unit)) (λ p. Among p (o .outputs)) (choice m o)
 chosen m {o} g = scanned (pricedCost m (o .unit)) (o .outputs) (g .proper .ascends) (g .some)
 
 tied-given : (m : ℕ) (os : List Offer) (xs : List ℕ) → Tied m os xs → Given os xs

@@ -7,7 +7,7 @@ use native.Mathlib.Omega.{arith}
 use lib.IntN.{ℤ}
 use lib.Signed.{leZ, _≤ℤ_, ≤ℤ-refl}
 use Rattle.rules.specs.Numbers.{greatestAt}
-use Rattle.rules.proofs.Lists.{either-way}
+use Rattle.rules.proofs.Verdicts.{either-way}
 use Rattle.rules.proofs.Integers.{ints, itself, when-le, when-gt}
 
 -- what holds of a number and of each of a list holds of each of both

@@ -10,17 +10,16 @@ use borrow.Author.Tests.{leb-true, le-leb}
 use Rattle.rules.specs.Numbers.{natural}
 use Rattle.rules.specs.Unit.{Unit}
 use Rattle.rules.specs.Layout.{Case}
-use Rattle.rules.specs.Problem.{totalCost, totalNet, covers, Problem, unitsOf, target, problemOf}
+use Rattle.rules.specs.Problem.{totalCost, totalNet, Problem, unitsOf, target, problemOf}
 use Rattle.rules.specs.Choice.{selected, dualValue, floor, greatestFloor}
 use Rattle.rules.specs.Bisection.{Found, greatestOutputs, solvable, found, replyOf, solve}
 use Rattle.rules.specs.Promise.{Permitted, Covering, costLessGap, ReplyPromise}
 use Rattle.rules.proofs.Lists.{Every}
 use Rattle.rules.proofs.Integers.{up, dn, is-pos, is-minus, up-is, same, itself, ints}
 use Rattle.rules.proofs.Sound.{Sound}
-use Rattle.rules.proofs.Economics.Totals.{units-of-problem}
-use Rattle.rules.proofs.Economics.Allocations.{Given, Proper, relaxation, selected-tied, greatest-given}
-use Rattle.rules.proofs.Economics.Search.{Searched, searched}
-use Rattle.rules.proofs.Economics.Solvable.{given-allocation, allocation-given, solvable-available, solvable-covers, case-proper}
+use Rattle.rules.proofs.Economics.Allocations.{Given, Proper, relaxation, selected-tied, greatest-given, greatest-net}
+use Rattle.rules.proofs.Economics.Search.{Searched, searched, below-first}
+use Rattle.rules.proofs.Economics.Solvable.{units-of-problem, given-allocation, allocation-given, solvable-available, solvable-covers, case-proper}
 
 -- a gap that is not negative is exact
 pub natural-up : (z : ℤ) → natural z ≡ up z
@@ -38,15 +37,15 @@ gap-exact n z h =
 -- ---- of a problem
 
 module _ (q : Problem) (proper : Every Proper (q .offers)) (solves : solvable q ≡ true) where
-  abbrev Shown : Found (List ℕ) → Type 0
+  abbrev pub Shown : Found (List ℕ) → Type 0
   Shown = Searched (Given (q .offers)) (totalCost (unitsOf q)) (totalNet (unitsOf q)) 100000 (target q) (λ m. selected m q) (λ m. dualValue m q) (greatestOutputs q)
 
   -- what the search finds
-  shown : Shown (found q)
+  pub shown : Shown (found q)
   unfolding found greatestOutputs
   shown =
       let available = solvable-available q proper solves in
-      searched (relaxation q available (λ m. selected m q) (selected-tied q available)) (greatestOutputs q) (greatest-given (q .offers) available) (solvable-covers q proper solves)
+      searched (relaxation q available (λ m. selected m q) (selected-tied q available)) (greatestOutputs q) (greatest-given (q .offers) available) (solvable-covers q solves)
 
   -- what the reply's subtractions need: the best covers, and costs at least the greatest floor, which is not negative
   pub best-covers : target q ≤ totalNet (unitsOf q) (found q .best)
@@ -60,8 +59,15 @@ module _ (q : Problem) (proper : Every Proper (q .offers)) (solves : solvable q 
   unfolding floor
   greatest-floor-not-negative = shown .notNegative
 
+  -- it never costs more than the greatest outputs
+  pub at-most-first : totalCost (unitsOf q) (found q .best) ≤ totalCost (unitsOf q) (greatestOutputs q)
+  unfolding found greatestOutputs
+  at-most-first =
+      let available = solvable-available q proper solves in
+      below-first (relaxation q available (λ m. selected m q) (selected-tied q available)) (greatestOutputs q) (greatest-given (q .offers) available) (solvable-covers q solves) (λ ys a. greatest-net (q .offers) ys proper a)
+
   -- "the reply's cost minus its gap" is the greatest floor evaluated
-  difference : costLessGap (solve q) ≡ greatestFloor q (found q .evaluated)
+  pub difference : costLessGap (solve q) ≡ greatestFloor q (found q .evaluated)
   unfolding solve replyOf
   difference = gap-exact (totalCost (unitsOf q) (found q .best)) (greatestFloor q (found q .evaluated)) floor-at-most-cost
 

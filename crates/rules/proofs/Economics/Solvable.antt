@@ -1,5 +1,5 @@
 -- Step 1 is exact, of any problem with proper offers: some outputs given from the offers cover exactly if the greatest do. A case with sound units is such a problem, and what is given from its offers is what is permitted.
-use mathlib.Core.Path.{_≡_, refl, sym, subst}
+use mathlib.Core.Path.{_≡_, refl, sym, ap, subst}
 use mathlib.Core.Bool.{Bool, true, false, true≢false}
 use mathlib.Core.List.{List, [], _∷_, map}
 use Prim.Native.Nat.{ℕ, _≤_, _<_}
@@ -12,7 +12,8 @@ use Rattle.rules.specs.Unit.{Unit, permitted}
 use Rattle.rules.specs.Layout.{Case}
 use Rattle.rules.specs.Problem.{allocation, totalNet, covers, Offer, Problem, unitsOf, target, offer, problemOf}
 use Rattle.rules.specs.Bisection.{greatestOutputs, solvable}
-use Rattle.rules.proofs.Lists.{Every, every-map, every-more, every-both, all-every, and-true}
+use Rattle.rules.proofs.Lists.{Every, every-map, every-more, every-both, all-every}
+use Rattle.rules.proofs.Verdicts.{and-true}
 use Rattle.rules.proofs.Sound.{Sound}
 use Rattle.rules.proofs.Economics.Chosen.{some-among}
 use Rattle.rules.proofs.Economics.Outputs.{permitted-greatest, outputs-ascend, offered-permitted, permitted-offered}
@@ -20,37 +21,45 @@ use Rattle.rules.proofs.Economics.Allocations.{Given, Proper, Available
 
 -- ---- step 1
 
-abbrev some : Offer → Bool
-some o = ltb 0 (length (o .outputs))
+abbrev offersSome : Offer → Bool
+offersSome o = ltb 0 (length (o .outputs))
 
-given-some : (os : List Offer) (ps : List ℕ) → Given os ps → all some os ≡ true
+given-some : (os : List Offer) (ps : List ℕ) → Given os ps → all offersSome os ≡ true
 given-some [] [] g = refl
 given-some [] (p ∷ ps) g = absurd g
 given-some (o ∷ os) [] g = absurd g
-given-some (o ∷ os) (p ∷ ps) g = and-true (some o) (all some os) .1 (lt-ltb 0 (length (o .outputs)) (some-among p (o .outputs) (g .0)), given-some os ps (g .1))
+given-some (o ∷ os) (p ∷ ps) g = and-true (offersSome o) (all offersSome os) .1 (lt-ltb 0 (length (o .outputs)) (some-among p (o .outputs) (g .0)), given-some os ps (g .1))
 
-module _ (q : Problem) (proper : Every Proper (q .offers)) where
+module _ (q : Problem) where
   abbrev greatestNet : ℕ
   greatestNet = totalNet (unitsOf q) (greatestOutputs q)
 
-  pub solvable-available : solvable q ≡ true → Every Available (q .offers)
+  pub solvable-available : Every Proper (q .offers) → solvable q ≡ true → Every Available (q .offers)
   unfolding solvable
-  solvable-available e =
-      let each = all-every some (q .offers) .0 (and-true (all some (q .offers)) (covers (q .demand) greatestNet) .0 e .0) in
-      every-both Proper (λ o. some o ≡ true) Available (λ o p s. record { proper = p; some = ltb-true 0 (length (o .outputs)) s }) (q .offers) proper each
+  solvable-available proper e =
+      let each = all-every offersSome (q .offers) .0 (and-true (all offersSome (q .offers)) (covers (q .demand) greatestNet) .0 e .0) in
+      every-both Proper (λ o. offersSome o ≡ true) Available (λ o p s. record { proper = p; some = ltb-true 0 (length (o .outputs)) s }) (q .offers) proper each
 
   pub solvable-covers : solvable q ≡ true → target q ≤ greatestNet
   unfolding solvable
-  solvable-covers e = leb-true (target q) greatestNet (and-true (all some (q .offers)) (covers (q .demand) greatestNet) .0 e .1)
+  solvable-covers e = leb-true (target q) greatestNet (and-true (all offersSome (q .offers)) (covers (q .demand) greatestNet) .0 e .1)
 
   -- whatever is given, if step 1 refuses, does not cover
-  pub unsolvable : solvable q ≡ false → (ps : List ℕ) → Given (q .offers) ps → totalNet (unitsOf q) ps < target q
+  pub unsolvable : Every Proper (q .offers) → solvable q ≡ false → (ps : List ℕ) → Given (q .offers) ps → totalNet (unitsOf q) ps < target q
   unfolding solvable greatestOutputs
-  unsolvable e ps g =
+  unsolvable proper e ps g =
       let short = leb-false (target q) greatestNet (rw (given-some (q .offers) ps g) at e) in
       omega (arith, short, greatest-net (q .offers) ps proper g)
 
--- ---- of a case: given from the offers is permitted, and its offers are proper
+-- ---- of a case: its units are the problem's, given from the offers is permitted, and its offers are proper
+
+pub units-of-problem : (c : Case) → unitsOf (problemOf c) ≡ c .units
+unfolding problemOf offer
+units-of-problem c = go (c .units)
+  where
+    go : (us : List Unit) → map (λ o. o .unit) (map offer us) ≡ us
+    go [] = refl
+    go (u ∷ us) = ap (λ (l : List Unit). u ∷ l) (go us)
 
 pub given-allocation : (us : List Unit) (ps : List ℕ) → Given (map offer us) ps → allocation us ps ≡ true
 unfolding allocation offer

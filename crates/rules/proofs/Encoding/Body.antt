@@ -13,7 +13,8 @@ use Rattle.rules.specs.Unit.{Unit}
 use Rattle.rules.specs.Layout.{edgeOfBody, unitOfBody, bodyLength, bodyOfUnit}
 use Rattle.rules.specs.Refusal.{unitVerdict, bodyVerdict}
 use Rattle.rules.specs.declared.Verdict.the-variants.{Accepted}
-use Rattle.rules.proofs.Lists.{Every, every-from, each-same, each-take, take-each, accepts}
+use Rattle.rules.proofs.Lists.{Every, every-from, each-same, each-take, take-each}
+use Rattle.rules.proofs.Verdicts.{accepts}
 use Rattle.rules.proofs.Sound.{Sound, sound, sound-accepted, edge-small}
 use Rattle.rules.proofs.Encoding.Pieces.{Piece, Fits, spell, place, piece, read-piece, read-behind, length-spell, spell-pieces, read-each, length-each-bytes, each-again}
 use Rattle.rules.proofs.Encoding.Rows.{EightEdges}

@@ -18,7 +18,7 @@ use Rattle.rules.specs.declared.Verdict.the-variants.{Accepted}
 use Rattle.rules.proofs.Lists.{Every, every-at, length-each, each-same, each-from, each-getD}
 use Rattle.rules.proofs.Encoding.Pieces.{Piece, Fits, spell, pieces, read-piece, read-behind, spell-pieces}
 use Rattle.rules.proofs.Encoding.Body.{Packable, length-body, unit-body-unit, body-accepted}
-use Rattle.rules.proofs.Encoding.SoundFile.{SoundFile, sound-file, start-next, size-at, body-at, units-packable}
+use Rattle.rules.proofs.Encoding.SoundFile.{SoundFile, sound-file, start-next, size-at, body-at}
 
 -- ---- where the bodies stand
 
@@ -253,6 +253,3 @@ module _ {file : List ℕ} (s : SoundFile file) (b : Bytes file) where
 
 pub file-case-file : (file : List ℕ) → Bytes file → fileVerdict file ≡ Accepted → fileOf (caseOf file .demand) (caseOf file .units) ≡ file
 file-case-file file b e = sound-file-again (sound-file file .0 e) b
-
-pub accepted-units : (file : List ℕ) → fileVerdict file ≡ Accepted → Every Packable (caseOf file .units)
-accepted-units file e = units-packable (sound-file file .0 e)

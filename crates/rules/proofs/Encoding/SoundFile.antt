@@ -9,12 +9,11 @@ use lib.ListN.{length, drop, length-drop}
 use lib.Seq.{length-take-le}
 use Rattle.fields.specs.Field.{Bytes}
 use Rattle.fields.proofs.Width.{bytes-part}
-use Rattle.rules.specs.Lists.{each}
 use Rattle.rules.specs.Layout.{bodyLength, bodyOfUnit, edition, count, demand, offset, size, body, unitAt, caseOf}
-use Rattle.rules.specs.Refusal.{_then_, inOrder, start, legalSize, entryFits, headVerdict, contentsVerdict, bodyVerdict, fileVerdict}
-use Rattle.rules.specs.declared.Verdict.{Verdict}
+use Rattle.rules.specs.Refusal.{start, legalSize, entryFits, headVerdict, contentsVerdict, bodyVerdict, fileVerdict}
 use Rattle.rules.specs.declared.Verdict.the-variants.{Accepted}
-use Rattle.rules.proofs.Lists.{Every, every-each, every-more, all-each, then-accepted, in-order-each, accepts}
+use Rattle.rules.proofs.Lists.{Every, every-each, every-more, all-each}
+use Rattle.rules.proofs.Verdicts.{in-order-each, accepts}
 use Rattle.rules.proofs.Sound.{Sound}
 use Rattle.rules.proofs.Encoding.Body.{Packable, body-packable, body-length, body-unit-body}
 
@@ -66,18 +65,11 @@ module _ (file : List ℕ) where
   pub sound-file : (fileVerdict file ≡ Accepted) ↔ SoundFile file
   unfolding fileVerdict
   sound-file =
-      let verdict : ℕ → Verdict = λ i. bodyVerdict (body file i) in
-      let rest = contentsVerdict file then inOrder (each (count file) verdict) in
-      let bodies = in-order-each (count file) verdict in (
+      let bodies = in-order-each (count file) (λ i. bodyVerdict (body file i)) in (
         λ e.
-            let (head, behind) = then-accepted (headVerdict file) rest .0 e in
-            let (contents, last) = then-accepted (contentsVerdict file) (inOrder (each (count file) verdict)) .0 behind in
+            let (head, (contents, last)) = simp accepts at e in
             record { head = sound-head .0 head; contents = sound-contents .0 contents; bodies = bodies .0 last },
-        λ s.
-            then-accepted (headVerdict file) rest .1 (
-              sound-head .1 (s .head),
-              then-accepted (contentsVerdict file) (inOrder (each (count file) verdict)) .1 (sound-contents .1 (s .contents), bodies .1 (s .bodies)),
-            ),
+        λ s. simp accepts (sound-head .1 (s .head), (sound-contents .1 (s .contents), bodies .1 (s .bodies))),
       )
 
 -- ---- the bodies
@@ -115,6 +107,9 @@ module _ {file : List ℕ} (s : SoundFile file) where
   unfolding caseOf
   units-packable = every-each Packable (count file) (unitAt file) unit-at-packable
 
+pub accepted-units : (file : List ℕ) → fileVerdict file ≡ Accepted → Every Packable (caseOf file .units)
+accepted-units file e = units-packable (sound-file file .0 e)
+
 -- every unit of an accepted file is sound
 pub units-sound : (file : List ℕ) → fileVerdict file ≡ Accepted → Every Sound (caseOf file .units)
-units-sound file e = every-more Packable Sound (λ u p. p .sound) (caseOf file .units) (units-packable (sound-file file .0 e))
+units-sound file e = every-more Packable Sound (λ u p. p .sound) (caseOf file .units) (accepted-units file e)

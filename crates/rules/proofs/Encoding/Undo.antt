@@ -16,12 +16,13 @@ use Rattle.rules.specs.declared.Verdict.{Verdict}
 use Rattle.rules.specs.declared.Verdict.the-variants.{Accepted, Refused}
 use Rattle.rules.specs.declared.Packed.{Packed}
 use Rattle.rules.specs.declared.Unpacked.{Unpacked}
-use Rattle.rules.proofs.Lists.{Every, every-both, every-more, every-map, length-each, in-order-accepted, accepts}
+use Rattle.rules.proofs.Lists.{Every, every-both, every-more, every-map, length-each}
+use Rattle.rules.proofs.Verdicts.{in-order-accepted, accepts}
 use Rattle.rules.proofs.Sound.{sound, sound-accepted}
 use Rattle.rules.proofs.Encoding.Rows.{EightEdges, rows-units-rows, units-rows-units, length-rows, rows-eight}
 use Rattle.rules.proofs.Encoding.Body.{Packable}
-use Rattle.rules.proofs.Encoding.SoundFile.{sound-file}
-use Rattle.rules.proofs.Encoding.RoundTrip.{length-file, file-accepted, case-file-case, file-case-file, accepted-units}
+use Rattle.rules.proofs.Encoding.SoundFile.{sound-file, accepted-units}
+use Rattle.rules.proofs.Encoding.RoundTrip.{length-file, file-accepted, case-file-case, file-case-file}
 
 -- ---- accepted rows
 

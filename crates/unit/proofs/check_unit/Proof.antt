@@ -3,7 +3,7 @@ use mathlib.Core.Path.{sym, _∙_}
 use borrow.Author.Tests.{ltb-false}
 use borrow.Author.Needs.{needs}
 use Rattle.rules.specs.Refusal.{unitVerdict}
-use Rattle.rules.proofs.Lists.{or-false}
+use Rattle.rules.proofs.Verdicts.{or-false}
 use Rattle.unit.proofs.check_unit.Statement.{statement}
 use Rattle.unit.proofs.check_unit.Tie as tie
 
