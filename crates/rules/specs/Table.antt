@@ -1,5 +1,5 @@
 -- Document 01, "Dispatches to be proved": its cases and both pricings as one table, from the file's bytes to the reply's, and one theorem.
--- The other lists tell apart rules which the paper's table does not: `further` (dispatches, pricings, packings, unpackings), `limits` (the last accepted value of each field and the first refused one), `refusals` (each number from each call that gives it), `orders` (an input that breaks two rules gets the number of the earlier check), `panelForms` (the calls as C sees them), `searches` (steps 2 to 4 by themselves). Above each of their rows stands the wrong rule that it shows, in `refusals` what is refused. Where a reader and a writer could be wrong alike, the bytes and the rows are spelled out.
+-- The other lists tell apart rules which the paper's table does not: `further` (dispatches, pricings, packings, unpackings), `limits` (the last accepted value of each field and the first refused one), `refusals` (each number from each call that gives it), `orders` (an input that breaks two rules gets the number of the earlier check), `panelForms` (the calls as C sees them), `searches` (steps 2 to 4 by themselves). Above each of their rows stands the wrong rule that it shows. Where a reader and a writer could be wrong alike, the bytes and the rows are spelled out.
 use Prim.Native.Nat.{ℕ, _+_, _*_}
 use mathlib.Core.Bool.{Bool, true, false}
 use mathlib.Core.List.{List, [], _∷_, _++_, map}
@@ -12,9 +12,9 @@ use Rattle.rules.specs.Numbers.{total, dividedUp, greatestAt, natural}
 use Rattle.rules.specs.Unit.{Unit, zones, permitted, cost, net}
 use Rattle.rules.specs.Layout.{edgeOfBody, unitOfBody, bodyOfUnit, caseOf, contentsFrom, bodiesOf, fileOf, unitOfRow, rowOfUnit, unitsOfRows, rowsOfUnits}
 use Rattle.rules.specs.Refusal.{headVerdict, contentsVerdict, zonesAscend, unitVerdict, bodyVerdict, fileVerdict, numberOf, numberOfVerdict}
-use Rattle.rules.specs.Problem.{allocation, totalCost, totalNet, offer, problemOf}
+use Rattle.rules.specs.Problem.{allocation, totalCost, totalNet, Offer, offer, problemOf}
 use Rattle.rules.specs.Choice.{pricedCost, leastFrom, choiceOf, choices, selected, dualValue, floor}
-use Rattle.rules.specs.Bisection.{Found, step4, step3, search, greatestOutputs, solvable, found, replyOf, solve}
+use Rattle.rules.specs.Bisection.{Found, Reply, step4, step3, search, greatestOutputs, solvable, found, replyOf, solve}
 use Rattle.rules.specs.Calls.{replyBytes, caseVerdict, dispatchVerdict, dispatchEnds, dispatched, priceVerdict, priceEnds, priced, packVerdict, packEnds, packed, unpackVerdict, unpackEnds, unpacked, panelDispatched, panelPriced, panelPacked, panelUnpacked}
 use Rattle.rules.specs.declared.Dispatched.{Dispatched}
 use Rattle.rules.specs.declared.Packed.{Packed}
@@ -41,6 +41,8 @@ pub data Call : Type 0 where
   allocate : List Unit → List ℕ → Call
   -- steps 2 to 4 for a target, where the choices of m are m itself with a net of 2 × m, and the first best is 70,000
   searchFor : ℕ → Call
+  -- the reply to a demand and offers
+  solveOffers : ℕ → List Offer → Call
 
 pub data Answer : Type 0 where
   writes : ℕ → List ℕ → Answer
@@ -54,6 +56,8 @@ pub data Answer : Type 0 where
   allocates : Bool → Answer
   -- the best, and the multipliers evaluated, the last one first
   finds : ℕ → List ℕ → Answer
+  -- outputs, cost, gap, evaluations, surplus
+  solves : List ℕ → ℕ → ℕ → ℕ → ℕ → Answer
 
 abbrev pub buffer : List ℕ
 buffer = replicate 92 255
@@ -77,6 +81,9 @@ ofUnpacking (Unpacked.Refused r) rows = refuses (numberOf r) rows
 abbrev pub ofSearch : Found ℕ → Answer
 ofSearch f = finds (f .best) (f .evaluated)
 
+abbrev pub ofSolution : Reply → Answer
+ofSolution r = solves (r .outputs) (r .cost) (r .gap) (r .evaluations) (r .surplus)
+
 -- what the rules give
 unfoldable pub answer : Call → Answer
 unfolding numberAfter bytes bytesOfEach zones edgeOfBody unitOfBody bodyOfUnit caseOf contentsFrom bodiesOf fileOf headVerdict contentsVerdict zonesAscend unitVerdict bodyVerdict fileVerdict permitted cost net totalCost totalNet offer problemOf pricedCost leastFrom choiceOf total choices selected dualValue dividedUp floor greatestAt step4 step3 search greatestOutputs solvable found natural replyOf solve replyBytes caseVerdict dispatchVerdict dispatchEnds dispatched priceVerdict priceEnds priced unitOfRow unitsOfRows packVerdict packEnds packed rowOfUnit rowsOfUnits unpackVerdict unpackEnds unpacked panelDispatched panelPriced panelPacked panelUnpacked allocation
@@ -93,6 +100,7 @@ answer (panelPack d rows file) = let r = panelPacked d rows file in returns (r .
 answer (panelUnpack file rows answers) = let r = panelUnpacked file rows answers in returns (r .number) (r .rows) (r .answers)
 answer (allocate us ps) = allocates (allocation us ps)
 answer (searchFor target) = ofSearch (search (λ m. m) (λ x. 2 * x) target 70000)
+answer (solveOffers d offers) = ofSolution (solve (record { demand = d; offers = offers }))
 
 pub record Row : Type 0 where
   pub call : Call
@@ -131,6 +139,12 @@ unfoldable pub siteReply : List ℕ
 siteReply =
     0x00 ∷ 0x02 ∷ 0x00 ∷ 0x12 ∷ 0x00 ∷ 0x00 ∷ 0x00 ∷ 0x00 ∷ 0x00 ∷ 0x0A ∷ 0xB9 ∷ 0x1B ∷ 0x00 ∷ 0x00 ∷ 0x00 ∷ 0x00 ∷ 0x00 ∷ 0x00
     ∷ 0x98 ∷ 0x57 ∷ 0x00 ∷ 0x00 ∷ 0x00 ∷ 0x00 ∷ 0x05 ∷ 0xF5 ∷ 0xDD ∷ 0xCD ∷ 0x00 ∷ 0x0F ∷ 0x00 ∷ 0x0C ∷ []
+
+-- units 1 evaluations 2 cost 200000 gap 0 surplus 0, output 10: the reply to U, d 10
+unfoldable pub u10Reply : List ℕ
+u10Reply =
+    0x00 ∷ 0x01 ∷ 0x00 ∷ 0x02 ∷ 0x00 ∷ 0x00 ∷ 0x00 ∷ 0x00 ∷ 0x00 ∷ 0x03 ∷ 0x0D ∷ 0x40 ∷ 0x00 ∷ 0x00 ∷ 0x00 ∷ 0x00 ∷ 0x00 ∷ 0x00
+    ∷ 0x00 ∷ 0x00 ∷ 0x00 ∷ 0x00 ∷ 0x00 ∷ 0x00 ∷ 0x00 ∷ 0x00 ∷ 0x00 ∷ 0x00 ∷ 0x00 ∷ 0x0A ∷ []
 
 -- the planner's rows of U and of that site
 unfoldable pub rowOfU : List ℕ
@@ -180,6 +194,10 @@ edgeAtLeast = put 38 (0x00 ∷ 0x02 ∷ []) u5
 
 unfoldable pub otherMark : List ℕ
 otherMark = put 34 (0x00 ∷ 0x02 ∷ []) u5
+
+-- the largest losses near 10,000: 65,536's choices net less than the greatest output does
+unfoldable pub lossiest : Offer
+lossiest = record { unit = unitOfRow (0 ∷ 10000000 ∷ 1000 ∷ 5000 ∷ 9998 ∷ 10000 ∷ 0 ∷ 0 ∷ 0 ∷ 1 ∷ 0 ∷ replicate 8 0); outputs = 9998 ∷ 9999 ∷ 10000 ∷ [] }
 
 -- lent rows, 608 numbers, and a lent list of three answers
 abbrev pub rowsBuffer : List ℕ
@@ -284,7 +302,9 @@ further =
     ∷ record { call = dispatch (site 0); result = reply (7 ∷ 0 ∷ []) 169007 0 1 699999853 }
     -- the second zone left out, or one kind of unit
     ∷ record { call = dispatch (site 23); result = reply (13 ∷ 12 ∷ []) 626747 67999 18 199999349 }
-    -- a window that ends below previous + up; the reply's layout with more than one unit, in the bytes' writer and in this table alike
+    -- the evaluations 18 in the bytes of each reply
+    ∷ record { call = dispatch (fileOf 10 (U ∷ [])); result = writes 30 (u10Reply ++ replicate 62 255) }
+    -- a window that ends below previous + up; one unit, or its outputs from the last, in the bytes of each reply
     ∷ record { call = dispatch (site 26); result = writes 32 (siteReply ++ replicate 60 255) }
     -- bytes past the reply moved or changed
     ∷ record { call = dispatchInto u5 (each 95 (λ k. k)); result = writes 30 (u5Reply ++ each 65 (λ k. 30 + k)) }
@@ -292,10 +312,14 @@ further =
     ∷ record { call = price u5 20; result = values (pos 7600000000) false }
     -- pricing asks cover of d + 1, or a net above the demand
     ∷ record { call = price (fileOf 10 (U ∷ [])) 65536; result = values (pos 20000000000) true }
+    -- a net one below the demand covers
+    ∷ record { call = dispatch (put 4 (0x00 ∷ 0x00 ∷ 0x00 ∷ 0x01 ∷ []) (put 22 (0x00 ∷ 0x01 ∷ 0x00 ∷ 0x01 ∷ []) (put 28 (0x00 ∷ 0x01 ∷ []) u5))); result = refuses 11 buffer }
     -- the order of a row's numbers
     ∷ record { call = pack 5 rowOfU; result = writes 42 (u5 ++ replicate 50 255) }
     -- the order of a row's numbers, where all are unlike
     ∷ record { call = pack 26 rowsOfSite; result = writes 76 (site 26 ++ replicate 16 255) }
+    -- 30 bytes asked for each body
+    ∷ record { call = packInto 5 (drop 19 rowsOfSite) (replicate 38 255); result = writes 38 ((0x00 ∷ 0x01 ∷ 0x00 ∷ 0x01 ∷ 0x00 ∷ 0x00 ∷ 0x00 ∷ 0x05 ∷ 0x00 ∷ 0x0C ∷ 0x00 ∷ 0x1A ∷ []) ++ drop 50 (site 26)) }
     -- a buffer as long as the file taken for too short
     ∷ record { call = packInto 26 rowsOfSite (replicate 76 255); result = writes 76 (site 26) }
     -- the order of a row's numbers in unpacking, unused edges not zero, or the demand and the count changed places
@@ -350,13 +374,19 @@ limits =
     ∷ record { call = check (put 64 (0x00 ∷ 0x03 ∷ []) (site 26)); result = checks 9 }
     -- a body of 38 bytes not accepted
     ∷ record { call = check (take 50 (put 10 (0x00 ∷ 0x26 ∷ []) (put 36 (0x00 ∷ 0x03 ∷ []) atLimits))); result = checks 0 }
+    -- a head of 8 bytes refused (6, not 2: it has no contents)
+    ∷ record { call = check (take 8 u5); result = checks 6 }
+    -- a body of 22 bytes
+    ∷ record { call = check (take 34 (put 10 (0x00 ∷ 0x16 ∷ []) u5)); result = checks 6 }
     -- a body of 28 bytes
     ∷ record { call = check (take 40 (put 10 (0x00 ∷ 0x1C ∷ []) u5)); result = checks 6 }
     -- a body of 46 bytes
     ∷ record { call = check (put 10 (0x00 ∷ 0x2E ∷ []) atLimits ++ (0x00 ∷ 0x00 ∷ 0x00 ∷ 0x00 ∷ [])); result = checks 6 }
-    -- body 1 not held against 8 + 4n
+    -- body 1 behind 8 + 4n
+    ∷ record { call = check (put 8 (0x00 ∷ 0x0D ∷ []) u5 ++ (0x00 ∷ [])); result = checks 6 }
+    -- body 1 before 8 + 4n
     ∷ record { call = check (take 41 (put 8 (0x00 ∷ 0x0B ∷ []) u5)); result = checks 6 }
-    -- a later body not held against the end of the one before
+    -- a later body before the end of the one before
     ∷ record { call = check (take 75 (put 12 (0x00 ∷ 0x31 ∷ []) (site 26))); result = checks 6 }
     -- the file's end not held against the last body's, below it
     ∷ record { call = check (take 41 u5); result = checks 6 }
@@ -370,100 +400,100 @@ limits =
     ∷ record { call = pack 320000 rowOfU; result = writes 42 (put 4 (0x00 ∷ 0x04 ∷ 0xE2 ∷ 0x00 ∷ []) u5 ++ replicate 50 255) }
     ∷ []
 
--- Each number from 1 to 14 (pricing's 1 is C's alone: `panelForms`), from each call that gives it; the row's comment says what is refused.
+-- Each number from 1 to 14, from each call that gives it (pricing's 1 is C's alone: `panelForms`).
 unfoldable pub refusals : List Row
 refusals =
-    -- dispatch into 91 bytes
+    -- dispatch accepts a reply of 91 bytes
     record { call = dispatchInto u5 (replicate 91 255); result = refuses 1 (replicate 91 255) }
-    -- dispatch of a head of 7 bytes
+    -- dispatch accepts a head of 7 bytes
     ∷ record { call = dispatch shortHead; result = refuses 2 buffer }
-    -- dispatch of edition 2
+    -- dispatch accepts edition 2
     ∷ record { call = dispatch otherEdition; result = refuses 3 buffer }
-    -- dispatch of no unit
+    -- dispatch accepts no unit
     ∷ record { call = dispatch noUnit; result = refuses 4 buffer }
-    -- dispatch of d 320,001
+    -- dispatch accepts d 320,001
     ∷ record { call = dispatch demandAbove; result = refuses 5 buffer }
-    -- dispatch of a byte behind the last body
+    -- dispatch accepts a byte behind the last body
     ∷ record { call = dispatch byteTooMany; result = refuses 6 buffer }
-    -- dispatch of z that does not fit the length
+    -- dispatch accepts z that does not fit the length
     ∷ record { call = dispatch noZone; result = refuses 7 buffer }
-    -- dispatch of c1 above its limit
+    -- dispatch accepts c1 above its limit
     ∷ record { call = dispatch linearCostAbove; result = refuses 8 buffer }
-    -- dispatch of a lower edge equal to least
+    -- dispatch accepts a lower edge equal to least
     ∷ record { call = dispatch edgeAtLeast; result = refuses 9 buffer }
-    -- dispatch of mark 2
+    -- dispatch accepts mark 2
     ∷ record { call = dispatch otherMark; result = refuses 10 buffer }
-    -- dispatch of a demand that nothing covers
+    -- dispatch without step 1
     ∷ record { call = dispatch (put 7 (0x0B ∷ []) u5); result = refuses 11 buffer }
-    -- pricing with m 65,537
+    -- pricing accepts m 65,537
     ∷ record { call = price u5 65537; result = refuses 14 [] }
-    -- pricing of a head of 7 bytes
+    -- pricing accepts a head of 7 bytes
     ∷ record { call = price shortHead 0; result = refuses 2 [] }
-    -- pricing of edition 2
+    -- pricing accepts edition 2
     ∷ record { call = price otherEdition 0; result = refuses 3 [] }
-    -- pricing of no unit
+    -- pricing accepts no unit
     ∷ record { call = price noUnit 0; result = refuses 4 [] }
-    -- pricing of d 320,001
+    -- pricing accepts d 320,001
     ∷ record { call = price demandAbove 0; result = refuses 5 [] }
-    -- pricing of a byte behind the last body
+    -- pricing accepts a byte behind the last body
     ∷ record { call = price byteTooMany 0; result = refuses 6 [] }
-    -- pricing of z that does not fit the length
+    -- pricing accepts z that does not fit the length
     ∷ record { call = price noZone 0; result = refuses 7 [] }
-    -- pricing of c1 above its limit
+    -- pricing accepts c1 above its limit
     ∷ record { call = price linearCostAbove 0; result = refuses 8 [] }
-    -- pricing of a lower edge equal to least
+    -- pricing accepts a lower edge equal to least
     ∷ record { call = price edgeAtLeast 0; result = refuses 9 [] }
-    -- pricing of mark 2
+    -- pricing accepts mark 2
     ∷ record { call = price otherMark 0; result = refuses 10 [] }
-    -- pricing of a demand that nothing covers
+    -- pricing without step 1
     ∷ record { call = price (put 7 (0x0B ∷ []) u5) 0; result = refuses 11 [] }
-    -- unpacking into 607 numbers
+    -- unpacking accepts rows of 607 numbers
     ∷ record { call = unpackInto u5 (replicate 607 9); result = refuses 1 (replicate 607 9) }
-    -- unpacking of a head of 7 bytes
+    -- unpacking accepts a head of 7 bytes
     ∷ record { call = unpackInto shortHead rowsBuffer; result = refuses 2 rowsBuffer }
-    -- unpacking of edition 2
+    -- unpacking accepts edition 2
     ∷ record { call = unpackInto otherEdition rowsBuffer; result = refuses 3 rowsBuffer }
-    -- unpacking of no unit
+    -- unpacking accepts no unit
     ∷ record { call = unpackInto noUnit rowsBuffer; result = refuses 4 rowsBuffer }
-    -- unpacking of d 320,001
+    -- unpacking accepts d 320,001
     ∷ record { call = unpackInto demandAbove rowsBuffer; result = refuses 5 rowsBuffer }
-    -- unpacking of a byte behind the last body
+    -- unpacking accepts a byte behind the last body
     ∷ record { call = unpackInto byteTooMany rowsBuffer; result = refuses 6 rowsBuffer }
-    -- unpacking of z that does not fit the length
+    -- unpacking accepts z that does not fit the length
     ∷ record { call = unpackInto noZone rowsBuffer; result = refuses 7 rowsBuffer }
-    -- unpacking of c1 above its limit
+    -- unpacking accepts c1 above its limit
     ∷ record { call = unpackInto linearCostAbove rowsBuffer; result = refuses 8 rowsBuffer }
-    -- unpacking of a lower edge equal to least
+    -- unpacking accepts a lower edge equal to least
     ∷ record { call = unpackInto edgeAtLeast rowsBuffer; result = refuses 9 rowsBuffer }
-    -- unpacking of mark 2
+    -- unpacking accepts mark 2
     ∷ record { call = unpackInto otherMark rowsBuffer; result = refuses 10 rowsBuffer }
-    -- packing of no row
+    -- packing accepts no row
     ∷ record { call = pack 5 []; result = refuses 12 buffer }
-    -- packing of 18 numbers
+    -- packing accepts 18 numbers
     ∷ record { call = pack 5 (take 18 rowOfU); result = refuses 12 buffer }
-    -- packing of 20 numbers
+    -- packing accepts 20 numbers
     ∷ record { call = pack 5 (rowOfU ++ (0 ∷ [])); result = refuses 12 buffer }
-    -- packing with d 320,001
+    -- packing accepts d 320,001
     ∷ record { call = pack 320001 rowOfU; result = refuses 5 buffer }
-    -- packing of five zones
+    -- packing accepts five zones
     ∷ record { call = pack 5 (put 10 (5 ∷ []) rowOfU); result = refuses 7 buffer }
-    -- packing of edges without a zone
+    -- packing accepts edges without a zone
     ∷ record { call = pack 5 (put 10 (0 ∷ []) rowOfU); result = refuses 7 buffer }
-    -- packing of an edge behind the last zone
+    -- packing accepts an edge behind the last zone
     ∷ record { call = pack 5 (put 13 (8 ∷ []) rowOfU); result = refuses 7 buffer }
-    -- packing of a last edge that is not in use
+    -- packing accepts a last edge that is not in use
     ∷ record { call = pack 5 (put 18 (8 ∷ []) rowOfU); result = refuses 7 buffer }
-    -- packing of c1 above its limit
+    -- packing accepts c1 above its limit
     ∷ record { call = pack 5 (put 1 (10000001 ∷ []) rowOfU); result = refuses 8 buffer }
-    -- packing of a lower edge equal to least
+    -- packing accepts a lower edge equal to least
     ∷ record { call = pack 5 (put 11 (2 ∷ []) rowOfU); result = refuses 9 buffer }
-    -- packing of mark 2
+    -- packing accepts mark 2
     ∷ record { call = pack 5 (put 9 (2 ∷ []) rowOfU); result = refuses 10 buffer }
-    -- packing into a buffer one byte too short
+    -- packing accepts a buffer one byte too short
     ∷ record { call = packInto 26 rowsOfSite (replicate 75 255); result = refuses 13 (replicate 75 255) }
     ∷ []
 
--- Each input breaks two rules; the comment names the wrong order.
+-- Each input breaks two rules.
 unfoldable pub orders : List Row
 orders =
     -- dispatch: 2 before 1
@@ -564,6 +594,8 @@ searches =
     ∷ record { call = searchFor 131072; result = finds 65536 (65536 ∷ 0 ∷ []) }
     -- step 3 goes on without cover, or ends with its own choices
     ∷ record { call = searchFor 131073; result = finds 70000 (65536 ∷ 0 ∷ []) }
+    -- the best of a step 3 without cover is not the greatest outputs
+    ∷ record { call = solveOffers 5000 (lossiest ∷ []); result = solves (10000 ∷ []) 200000000000 59982892 2 0 }
     ∷ []
 
 pub table-holds : map (λ r. answer (r .call)) table ≡ map (λ r. r .result) table
@@ -571,7 +603,7 @@ unfolding answer table u5 u5Reply U lossy marked zoned
 table-holds = refl
 
 pub further-holds : map (λ r. answer (r .call)) further ≡ map (λ r. r .result) further
-unfolding answer further u5 u5Reply site siteReply rowOfU rowsOfSite U lossy priced-at marked
+unfolding answer further u5 u5Reply u10Reply site siteReply rowOfU rowsOfSite U lossy priced-at marked
 further-holds = refl
 
 pub limits-hold : map (λ r. answer (r .call)) limits ≡ map (λ r. r .result) limits
@@ -591,5 +623,5 @@ unfolding answer panelForms u5 shortHead otherEdition noUnit demandAbove byteToo
 panel-forms-hold = refl
 
 pub searches-hold : map (λ r. answer (r .call)) searches ≡ map (λ r. r .result) searches
-unfolding answer searches
+unfolding answer searches lossiest
 searches-hold = refl
