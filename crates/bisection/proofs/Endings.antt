@@ -2,49 +2,67 @@
 use Prim.Native.Nat.{ℕ, _≤_, _<_}
 use native.Mathlib.Omega.{arith}
 use mathlib.Core.Path.{_≡_, subst}
-use mathlib.Core.Bool.{true, false}
 use mathlib.Core.List.{List}
 use lib.ListN.{length}
 use borrow.Author.Tests.{lt-ltb, le-ltb}
 use Rattle.rules.specs.Lists.{over}
 use Rattle.rules.specs.Refusal.{fileVerdict}
-use Rattle.rules.specs.Problem.{Problem, problemIn}
-use Rattle.rules.specs.Bisection.{Reply, solvable, found, solve}
+use Rattle.rules.specs.Problem.{problemIn}
+use Rattle.rules.specs.Bisection.{greatestOutputs, found, solve}
 use Rattle.rules.specs.Calls.{DispatchResult, replyBytes, caseVerdict, dispatchVerdict, dispatchEnds, dispatched}
 use Rattle.rules.specs.Promise.{Promise}
 use Rattle.rules.specs.declared.Refusal.{Refusal}
-use Rattle.rules.specs.declared.Refusal.the-variants.{BufferTooShort, NoAllocation}
+use Rattle.rules.specs.declared.Refusal.the-variants.{BufferTooShort}
 use Rattle.rules.specs.declared.Verdict.{Verdict}
 use Rattle.rules.specs.declared.Dispatched.{Dispatched}
 use Rattle.rules.proofs.Economics.Solution.{best-covers, floor-at-most-cost, greatest-floor-not-negative}
-use Rattle.rules.proofs.Demand3.{demand3}
-use Rattle.pricing.specs.declared.Problem as code-problem
-use Rattle.pricing.specs.Totals.{HoldsProblem, GreatestOutputs}
-use Rattle.pricing.specs.declared.Allocation as code-allocation
+use Rattle.rules.proofs.Demand3.{case-accepted, demand3}
+use Rattle.pricing.specs.Totals.{HoldsOutputs}
+use Rattle.pricing.specs.Step1.{First}
+use Rattle.pricing.proofs.Offers.{held-proper}
+use Rattle.bisection.specs.declared.search.Allocation as code-allocation
 use Rattle.bisection.specs.declared.search.Found as code-found
 use Rattle.bisection.specs.declared.reply.Reply as code-reply
 use Rattle.bisection.specs.ReplyHeld.{replyHeld}
-use Rattle.bisection.specs.Search.{Searches}
-use Rattle.bisection.specs.Solved.{Stateable, States, Solving}
+use Rattle.bisection.specs.Search.{Holding, Searches}
+use Rattle.bisection.specs.Solved.{Stateable, States, Solving, Solves}
 
 -- what the search found can be stated
-pub stateable : {q : code-problem.Problem} (s : Solving q) {first : code-allocation.Allocation} {f : code-found.Found} → GreatestOutputs q first → Searches q first f → Stateable q f
-stateable {q} s {first} {f} g h =
-    let p = s .problem in
-    let found = h .held p (s .holds) (g .outputs p (s .holds)) in
-    let bounded = s .searchable .bounded in
+pub stateable : {coefficients ends ranges : List ℕ} {n t : ℕ} {first : code-allocation.Allocation} (s : Solving coefficients ends ranges n t first) {f : code-found.Found} → Searches (Holding coefficients ends ranges n t) n first f → Stateable t f
+stateable {t = t} s {f} h =
+    let q = s .problem in
+    let p = s .holds .problem in
+    let found = h .held q (s .holds) (s .greatest) in
+    let proper = held-proper p in
     record {
-      demand = bounded .demand;
-      covers = omega (arith, best-covers p (s .proper) (s .solves), found .best .net, s .holds .demand);
-      cost = omega (arith, h .sized .cost, bounded .count);
-      floor = rw (found .floor, found .best .cost) (floor-at-most-cost p (s .proper) (s .solves));
-      positive = rw (found .floor) (greatest-floor-not-negative p (s .proper) (s .solves));
+      covers = omega (arith, best-covers q proper (s .solves), found .best .net, s .holds .demanded);
+      cost = omega (arith, h .sized .cost, p .few);
+      floor = rw (found .floor, found .best .cost) (floor-at-most-cost q proper (s .solves));
+      positive = rw (found .floor) (greatest-floor-not-negative q proper (s .solves));
     }
 
 -- and what is stated is the rules' solution
-pub solved : {q : code-problem.Problem} {first : code-allocation.Allocation} {f : code-found.Found} {r : code-reply.Reply} → States q f r → GreatestOutputs q first → Searches q first f → (p : Problem) → HoldsProblem q p → replyHeld (q .count) r ≡ solve p
+pub solved : {coefficients ends ranges : List ℕ} {n t : ℕ} {first : code-allocation.Allocation} {f : code-found.Found} {r : code-reply.Reply} → States t f r → Searches (Holding coefficients ends ranges n t) n first f → Solves coefficients ends ranges n t first r
 unfolding solve
-solved s g h p i = s .held p i (found p) (h .held p i (g .outputs p i))
+solved {r = r} s h = record { held = λ q i g. subst (λ (k : ℕ). replyHeld k r ≡ solve q) (i .problem .count) (s .held q (i .demanded) (found q) (h .held q i g)) }
+
+-- what step 1 found can be solved
+module _ {file coefficients ends ranges outputs : List ℕ} {n t c w : ℕ} (f : First file coefficients ends ranges outputs n t c w) where
+  abbrev best : code-allocation.Allocation
+  best = record { outputs = outputs; cost = c; net = w }
+
+  holding : Holding coefficients ends ranges n t (problemIn file)
+  holding = record { problem = f .site .holds; demanded = f .site .demanded }
+
+  greatest-held : HoldsOutputs (problemIn file) (greatestOutputs (problemIn file)) outputs (record { cost = c; net = w })
+  unfolding greatestOutputs
+  greatest-held = f .allocates .held (problemIn file) (f .site .holds)
+
+  pub solving : Solving coefficients ends ranges n t (record { outputs = outputs; cost = c; net = w })
+  solving = record { problem = problemIn file; holds = holding; solves = case-accepted file (f .accepted) .1; sized = f .allocates .sized; greatest = greatest-held }
+
+  pub solution : {r : code-reply.Reply} → Solves coefficients ends ranges n t (record { outputs = outputs; cost = c; net = w }) r → replyHeld n r ≡ solve (problemIn file)
+  solution s = s .held (problemIn file) holding greatest-held
 
 -- ---- outcome and promise
 
@@ -58,14 +76,10 @@ module _ (file reply : List ℕ) where
   short h = rw (lt-ltb (length reply) 92 h)
 
   module _ (long : 92 ≤ length reply) where
-    pub refused : (r : Refusal) → fileVerdict file ≡ Verdict.Refused r → dispatched file reply ≡ record { answer = Dispatched.Refused r; reply = reply }
-    unfolding dispatched dispatchVerdict caseVerdict dispatchEnds
+    pub refused : (r : Refusal) → caseVerdict file ≡ Verdict.Refused r → dispatched file reply ≡ record { answer = Dispatched.Refused r; reply = reply }
+    unfolding dispatched dispatchVerdict dispatchEnds
     refused r e = rw (le-ltb (length reply) 92 long, e)
 
-    pub unsolvable : fileVerdict file ≡ Verdict.Accepted → solvable (problemIn file) ≡ false → dispatched file reply ≡ record { answer = Dispatched.Refused NoAllocation; reply = reply }
-    unfolding dispatched dispatchVerdict caseVerdict dispatchEnds
-    unsolvable a e = rw (le-ltb (length reply) 92 long, a, e)
-
-    pub replied : fileVerdict file ≡ Verdict.Accepted → solvable (problemIn file) ≡ true → (r : Reply) → r ≡ solve (problemIn file) → {l : ℕ} {s : List ℕ} → l ≡ length (replyBytes r) → s ≡ over (replyBytes r) reply → dispatched file reply ≡ record { answer = Dispatched.Replied l; reply = s }
-    unfolding dispatched dispatchVerdict caseVerdict dispatchEnds
-    replied a e r same m n = rw (le-ltb (length reply) 92 long, a, e, m, n, same)
+    pub replied : {coefficients ends ranges outputs : List ℕ} {n t c w : ℕ} → First file coefficients ends ranges outputs n t c w → {r : code-reply.Reply} → Solves coefficients ends ranges n t (record { outputs = outputs; cost = c; net = w }) r → {l : ℕ} {s : List ℕ} → l ≡ length (replyBytes (replyHeld n r)) → s ≡ over (replyBytes (replyHeld n r)) reply → dispatched file reply ≡ record { answer = Dispatched.Replied l; reply = s }
+    unfolding dispatched dispatchVerdict dispatchEnds
+    replied f v m n = rw (le-ltb (length reply) 92 long, f .accepted, m, n, solution f v)

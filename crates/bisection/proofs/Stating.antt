@@ -1,10 +1,10 @@
 -- The reply's subtractions: the gap in signed 64 bits and the surplus in unsigned ones are the rules'.
-use Prim.Native.Nat.{ℕ, _+_, _*_, _-_, _≤_, _<_}
+use Prim.Native.Nat.{ℕ, _+_, _-_, _≤_, _<_}
 use native.Mathlib.Omega.{arith}
-use mathlib.Core.Path.{_≡_, sym, ap, ap₂, _∙_}
+use mathlib.Core.Path.{_≡_, sym, ap₂, _∙_}
 use lib.Dec.{T}
 use lib.IntN.{ℤ, pos, natAbs, _-ℤ_}
-use lib.ListN.{length, take}
+use lib.ListN.{length}
 use lib.Signed.{nonNeg}
 use mir.Syntax.{w64}
 use mir.Val.{SFits, toZ, ofZ}
@@ -13,12 +13,11 @@ use Rattle.rules.specs.Numbers.{natural}
 use Rattle.rules.specs.Bisection.{replyOf}
 use Rattle.rules.proofs.Integers.{up, dn, Is, itself, is-pos, is-minus, cast, fits, kept, not-negative, size-is, up-is, one-zero, ints}
 use Rattle.rules.proofs.Economics.Solution.{natural-up}
-use Rattle.pricing.specs.declared.Problem as code-problem
 use Rattle.bisection.specs.declared.reply.Reply as code-reply
 use Rattle.bisection.specs.declared.search.Found as code-found
 use Rattle.bisection.specs.Solved.{Stateable, States}
 
-module _ {q : code-problem.Problem} {f : code-found.Found} (s : Stateable q f) (fitted : SFits w64 (f .floor)) where
+module _ {t : ℕ} {f : code-found.Found} (s : Stateable t f) (fitted : SFits w64 (f .floor)) where
   abbrev computed : ℤ
   computed = toZ w64 (f .best .cost) -ℤ toZ w64 (ofZ w64 (f .floor))
 
@@ -55,21 +54,21 @@ module _ {q : code-problem.Problem} {f : code-found.Found} (s : Stateable q f) (
         evaluations = f .evaluations;
         cost = f .best .cost;
         gap = natAbs (toZ w64 (ofZ w64 computed));
-        surplus = f .best .net - 100000000 * q .demand;
+        surplus = f .best .net - t;
         outputs = f .best .outputs;
       }
 
-  pub states : length (f .best .outputs) ≡ 32 → States q f reply
+  pub states : length (f .best .outputs) ≡ 32 → States t f reply
   unfolding replyOf
   states long =
       record {
         long = long;
-        held = λ p i g h. λ n.
+        held = λ q i g h. λ n.
             record {
               evaluations = h .evaluations n;
               cost = h .best .cost n;
               gap = (gap-is ∙ ap₂ (λ (k : ℕ) (z : ℤ). natural (pos k -ℤ z)) (h .best .cost) (h .floor)) n;
-              surplus = ap₂ (λ (k d : ℕ). k - 100000000 * d) (h .best .net) (sym (i .demand)) n;
-              outputs = (ap (λ (k : ℕ). take k (f .best .outputs)) (sym (i .count)) ∙ h .best .outputs) n;
+              surplus = ap₂ (λ (k d : ℕ). k - d) (h .best .net) i n;
+              outputs = h .best .places n;
             };
       }

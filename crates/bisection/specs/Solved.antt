@@ -1,41 +1,39 @@
--- What is asked and answered between the search and the reply, for every problem that a decoded one stands for.
-use Prim.Native.Nat.{ℕ, _*_, _≤_}
+-- What is asked and answered between the search and the reply, for every problem that the arrays hold.
+use Prim.Native.Nat.{ℕ, _≤_}
 use mathlib.Core.Path.{_≡_}
 use mathlib.Core.Bool.{true}
 use mathlib.Core.List.{List}
 use lib.IntN.{pos}
 use lib.ListN.{length}
 use lib.Signed.{_≤ℤ_}
-use Rattle.rules.specs.Problem.{Problem}
-use Rattle.rules.specs.Bisection.{Found, solvable, replyOf, solve}
-use Rattle.rules.proofs.Lists.{Every}
-use Rattle.rules.proofs.Economics.Allocations.{Proper}
-use Rattle.pricing.specs.declared.Problem as code-problem
-use Rattle.pricing.specs.Totals.{HoldsProblem}
+use Rattle.rules.specs.Problem.{Problem, target}
+use Rattle.rules.specs.Bisection.{Found, greatestOutputs, solvable, replyOf, solve}
+use Rattle.pricing.specs.Totals.{HoldsOutputs, Sized}
 use Rattle.bisection.specs.declared.reply.Reply as code-reply
+use Rattle.bisection.specs.declared.search.Allocation as code-allocation
 use Rattle.bisection.specs.declared.search.Found as code-found
 use Rattle.bisection.specs.ReplyHeld.{replyHeld}
-use Rattle.bisection.specs.Search.{HoldsFound, Searchable}
+use Rattle.bisection.specs.Search.{sumsOf, Holding, HoldsFound}
 
 -- gap and surplus are not negative, and the cost is in range
-pub record Stateable (q : code-problem.Problem) (f : code-found.Found) : Type 0 where
-  pub demand : q .demand ≤ 320000
-  pub covers : 100000000 * q .demand ≤ f .best .net
+pub record Stateable (t : ℕ) (f : code-found.Found) : Type 0 where
+  pub covers : t ≤ f .best .net
   pub cost : f .best .cost ≤ 6432000000000
   pub floor : f .floor ≤ℤ pos (f .best .cost)
   pub positive : pos 0 ≤ℤ f .floor
 
-pub record States (q : code-problem.Problem) (f : code-found.Found) (r : code-reply.Reply) : Type 0 where
+pub record States (t : ℕ) (f : code-found.Found) (r : code-reply.Reply) : Type 0 where
   pub long : length (r .outputs) ≡ 32
-  pub held : (p : Problem) → HoldsProblem q p → (g : Found (List ℕ)) → HoldsFound p g f → replyHeld (q .count) r ≡ replyOf p g
+  pub held : (q : Problem) → t ≡ target q → (g : Found (List ℕ)) → HoldsFound q g f → replyHeld (length (q .offers)) r ≡ replyOf q g
 
--- a decoded problem in range that stands for one with proper offers that step 1 accepts
-pub record Solving (q : code-problem.Problem) : Type 0 where
-  pub searchable : Searchable q
+-- the arrays hold a problem that step 1 accepts, and its first best
+pub record Solving (coefficients ends ranges : List ℕ) (n t : ℕ) (first : code-allocation.Allocation) : Type 0 where
   pub problem : Problem
-  pub holds : HoldsProblem q problem
-  pub proper : Every Proper (problem .offers)
+  pub holds : Holding coefficients ends ranges n t problem
   pub solves : solvable problem ≡ true
+  pub sized : Sized n (sumsOf first)
+  pub greatest : HoldsOutputs problem (greatestOutputs problem) (first .outputs) (sumsOf first)
 
-pub record Solves (q : code-problem.Problem) (r : code-reply.Reply) : Type 0 where
-  pub held : (p : Problem) → HoldsProblem q p → replyHeld (q .count) r ≡ solve p
+-- the reply to every such problem
+pub record Solves (coefficients ends ranges : List ℕ) (n t : ℕ) (first : code-allocation.Allocation) (r : code-reply.Reply) : Type 0 where
+  pub held : (q : Problem) → Holding coefficients ends ranges n t q → HoldsOutputs q (greatestOutputs q) (first .outputs) (sumsOf first) → replyHeld n r ≡ solve q

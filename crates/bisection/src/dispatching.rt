@@ -1,4 +1,4 @@
-// From a case file's bytes to the reply's: check, decode once, search, write.
+// From a case file's bytes to the reply's: check and decode, search, write.
 ghost use mathlib.Core.Path.{_≡_};
 ghost use Prim.Native.Nat.{_≤_};
 ghost use lib.ListN.{length};
@@ -8,18 +8,18 @@ ghost use Rattle.rules.specs.Promise.{Promise};
 ghost use Rattle.bisection.specs.Solved.{Stateable, States, Solving, Solves};
 use crate::reply::Reply;
 use crate::reply::write_reply;
+use crate::search::Allocation;
 use crate::search::Found;
 use crate::search::search;
-use pricing::Allocation;
-use pricing::Problem;
+use pricing::FirstBest;
 use rules::Dispatched;
 use rules::Refusal;
 use rules::Verdict;
 
-// What the reply states of what the search found.
-fn stated(q: Problem, f: Found) -> Reply
-    requires { ⌜ Stateable q f ⌝ }
-    ensures { λ r. ⌜ States q f r ⌝ }
+// What the reply states of what the search found, for the net `target` that covers the demand.
+fn stated(target: u64, f: Found) -> Reply
+    requires { ⌜ Stateable target f ⌝ }
+    ensures { λ r. ⌜ States target f r ⌝ }
 {
     let Found {
         best,
@@ -31,17 +31,24 @@ fn stated(q: Problem, f: Found) -> Reply
         evaluations,
         cost,
         gap: (cost as i64 - floor) as u64,
-        surplus: net - 100000000 * q.demand,
+        surplus: net - target,
         outputs,
     }
 }
 
-// The solution of a problem that step 1 accepts.
-pub fn solve(q: Problem) -> Reply
-    requires { ⌜ Solving q ⌝ }
-    ensures { λ r. ⌜ Solves q r ⌝ }
+// The solution of a problem that step 1 accepts; `first` are its greatest outputs.
+pub fn solve(
+    coefficients: &[u64; 128],
+    ends: &[u16; 384],
+    ranges: &[u8; 64],
+    n: usize,
+    target: u64,
+    first: Allocation,
+) -> Reply
+    requires { ⌜ Solving (now coefficients) (now ends) (now ranges) n target first ⌝ }
+    ensures { λ r. ⌜ Solves (now (coefficients .entry)) (now (ends .entry)) (now (ranges .entry)) n target first r ⌝ }
 {
-    stated(q, search(q, pricing::greatest_outputs(q)))
+    stated(target, search(coefficients, ends, ranges, n, target, first))
 }
 
 // Dispatches the case file: writes the reply and gives its length, or refuses and leaves the reply's bytes as they were.
@@ -52,16 +59,31 @@ pub fn dispatch(file: &[u8], reply: &mut [u8]) -> Dispatched
     if reply.len() < 92 {
         return Dispatched::Refused(Refusal::BufferTooShort);
     }
-    let verdict = casefile::check(file);
-    match verdict {
-        Verdict::Refused(r) => Dispatched::Refused(r),
-        Verdict::Accepted => {
-            let q = pricing::problem_in(file);
-            if !pricing::solvable(q) {
-                return Dispatched::Refused(Refusal::NoAllocation);
-            }
-            let count = q.count;
-            Dispatched::Replied(write_reply(reply, count, solve(q)))
+    let mut coefficients = [0u64; 128];
+    let mut ends = [0u16; 384];
+    let mut ranges = [0u8; 64];
+    let mut outputs = [0u16; 32];
+    let first = pricing::first_best(
+        file,
+        &mut coefficients,
+        &mut ends,
+        &mut ranges,
+        &mut outputs,
+    );
+    match first {
+        FirstBest::Refused(r) => Dispatched::Refused(r),
+        FirstBest::Found {
+            count,
+            target,
+            cost,
+            net,
+        } => {
+            let best = Allocation { outputs, cost, net };
+            Dispatched::Replied(write_reply(
+                reply,
+                count,
+                solve(&coefficients, &ends, &ranges, count, target, best),
+            ))
         }
     }
 }

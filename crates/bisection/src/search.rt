@@ -1,18 +1,53 @@
-// The search of document 01, steps 2 to 4, over a decoded problem.
+// The search of document 01, steps 2 to 4, over a decoded site.
 ghost use mathlib.Core.Path.{_≡_};
 ghost use mathlib.Core.Bool.{cond};
-ghost use Prim.Native.Nat.{_+_, _*_};
+ghost use Prim.Native.Nat.{_≤_};
 ghost use lib.Signed.{leZ};
 ghost use Rattle.pricing.specs.Totals.{Sized};
-ghost use Rattle.bisection.specs.Search.{Searchable, Started, Halves, Searches};
-use pricing::Allocation;
-use pricing::Problem;
+ghost use Rattle.bisection.specs.Search.{Holding, Searchable, Selects, sumsOf, Started, Halves, Searches};
+use pricing::Sums;
+
+// Outputs of the units, with their cost and net together.
+pub struct Allocation {
+    pub outputs: [u16; 32],
+    pub cost: u64,
+    pub net: u64,
+}
+
+// What an evaluation takes besides the outputs: their cost and net together, and the multiplier's dual value.
+pub struct Selected {
+    pub cost: u64,
+    pub net: u64,
+    pub dual: i64,
+}
 
 // What the search has found so far: its best allocation, the greatest floor, and the number of evaluations.
 pub struct Found {
     pub best: Allocation,
     pub floor: i64,
     pub evaluations: u16,
+}
+
+// One evaluation, of `m`: writes the outputs that it takes.
+pub fn select(
+    coefficients: &[u64; 128],
+    ends: &[u16; 384],
+    ranges: &[u8; 64],
+    n: usize,
+    target: u64,
+    m: u64,
+    outputs: &mut [u16; 32],
+) -> Selected
+    requires { ⌜ Searchable (now coefficients) (now ends) (now ranges) n target × (m ≤ 65536) ⌝ }
+    ensures { λ r. ⌜ Selects (Holding (now (coefficients .entry)) (now (ends .entry)) (now (ranges .entry)) n target) n m (now (outputs .exit)) r ⌝ }
+{
+    let s = pricing::evaluate(coefficients, ends, ranges, n, m, outputs);
+    let Sums { cost, net } = s;
+    Selected {
+        cost,
+        net,
+        dual: pricing::dual_of(s, target, m),
+    }
 }
 
 // The greater of two floors.
@@ -23,14 +58,21 @@ fn greater(a: i64, b: i64) -> i64
 }
 
 // Step 4: halves from 0 and 65,536, where `start` is what the evaluations of these found. The ends are `low` and `low` + `width`.
-fn halve(q: Problem, start: Found) -> Found
-    requires { ⌜ Started q start ⌝ }
-    ensures { λ r. ⌜ Halves q start r ⌝ }
+fn halve(
+    coefficients: &[u64; 128],
+    ends: &[u16; 384],
+    ranges: &[u8; 64],
+    n: usize,
+    target: u64,
+    start: Found,
+) -> Found
+    requires { ⌜ Searchable (now coefficients) (now ends) (now ranges) n target × Started n start ⌝ }
+    ensures { λ r. ⌜ Halves (Holding (now (coefficients .entry)) (now (ends .entry)) (now (ranges .entry)) n target) n start r ⌝ }
 {
-    let target = 100000000 * q.demand;
     let mut best = start.best;
     let mut floor = start.floor;
     let mut evaluations = start.evaluations;
+    let mut outputs = [0u16; 32];
     let mut low: u64 = 0;
     let mut width: u64 = 65536;
     let found = loop {
@@ -43,20 +85,27 @@ fn halve(q: Problem, start: Found) -> Found
         }
         width = width / 2;
         let middle = low + width;
-        let e = pricing::evaluate(q, middle);
-        floor = greater(pricing::floor_of(e.dual), floor);
+        let s = select(coefficients, ends, ranges, n, target, middle, &mut outputs);
+        floor = greater(pricing::floor_of(s.dual), floor);
         evaluations += 1;
-        let choices = e.choices;
-        let net = choices.net;
+        let net = s.net;
         if net == target {
             break Found {
-                best: choices,
+                best: Allocation {
+                    outputs,
+                    cost: s.cost,
+                    net,
+                },
                 floor,
                 evaluations,
             };
         }
         if net > target {
-            best = choices;
+            best = Allocation {
+                outputs,
+                cost: s.cost,
+                net,
+            };
         } else {
             low = middle;
         }
@@ -65,26 +114,35 @@ fn halve(q: Problem, start: Found) -> Found
 }
 
 // Steps 2 to 4: `first` are the greatest outputs, which step 1 found to cover.
-pub fn search(q: Problem, first: Allocation) -> Found
-    requires { ⌜ (Searchable q) × (Sized (q .count) first) ⌝ }
-    ensures { λ r. ⌜ Searches q first r ⌝ }
+pub fn search(
+    coefficients: &[u64; 128],
+    ends: &[u16; 384],
+    ranges: &[u8; 64],
+    n: usize,
+    target: u64,
+    first: Allocation,
+) -> Found
+    requires { ⌜ Searchable (now coefficients) (now ends) (now ranges) n target × Sized n (sumsOf first) ⌝ }
+    ensures { λ r. ⌜ Searches (Holding (now (coefficients .entry)) (now (ends .entry)) (now (ranges .entry)) n target) n first r ⌝ }
 {
-    let target = 100000000 * q.demand;
-    let e = pricing::evaluate(q, 0);
-    let floor = pricing::floor_of(e.dual);
-    let choices = e.choices;
-    let net = choices.net;
+    let mut outputs = [0u16; 32];
+    let s = select(coefficients, ends, ranges, n, target, 0, &mut outputs);
+    let floor = pricing::floor_of(s.dual);
+    let net = s.net;
     if net >= target {
         return Found {
-            best: choices,
+            best: Allocation {
+                outputs,
+                cost: s.cost,
+                net,
+            },
             floor,
             evaluations: 1,
         };
     }
-    let e = pricing::evaluate(q, 65536);
-    let floor = greater(pricing::floor_of(e.dual), floor);
-    let choices = e.choices;
-    let net = choices.net;
+    let s = select(coefficients, ends, ranges, n, target, 65536, &mut outputs);
+    let floor = greater(pricing::floor_of(s.dual), floor);
+    let net = s.net;
     if net < target {
         return Found {
             best: first,
@@ -93,12 +151,16 @@ pub fn search(q: Problem, first: Allocation) -> Found
         };
     }
     let covering = Found {
-        best: choices,
+        best: Allocation {
+            outputs,
+            cost: s.cost,
+            net,
+        },
         floor,
         evaluations: 2,
     };
     if net == target {
         return covering;
     }
-    halve(q, covering)
+    halve(coefficients, ends, ranges, n, target, covering)
 }

@@ -1,15 +1,24 @@
--- What the code requires of a head and of a body.
+-- What the code requires of a head and of a body, and tells of a body's length.
 use Prim.Native.Nat.{ℕ, _+_, _*_, _≤_}
 use mathlib.Core.Path.{_≡_}
+use mathlib.Core.Bool.{Bool, true, false}
 use mathlib.Core.List.{List}
 use lib.ListN.{length}
 use Rattle.fields.specs.Field.{field}
 use Rattle.rules.specs.Layout.{bodyLength, count, offset, size}
+use Rattle.rules.specs.Refusal.{bodyVerdict}
+use Rattle.rules.specs.declared.Refusal.{Refusal}
+use Rattle.rules.specs.declared.Verdict.{Verdict}
 
 -- A body whose zone count is at most 4 and fits its length.
 pub record BodyFits (s : List ℕ) : Type 0 where
   pub zones : field s 24 2 ≤ 4
   pub size : length s ≡ bodyLength (field s 24 2)
+
+-- Whether a body does so: one that does not is refused.
+pub record FitTold (s : List ℕ) (r : Bool) : Type 0 where
+  pub fits : r ≡ true → BodyFits s
+  pub misfits : r ≡ false → bodyVerdict s ≡ Verdict.Refused Refusal.ZoneCountInvalid
 
 -- A body that lies inside the file, and is long enough for a zone count.
 pub record BodyInside (file : List ℕ) (i : ℕ) : Type 0 where

@@ -7,22 +7,33 @@ ghost use lib.ListN.{length};
 ghost use Rattle.rules.specs.Lists.{each, all};
 ghost use Rattle.rules.specs.Layout.{body};
 ghost use Rattle.rules.specs.Refusal.{inOrder, headVerdict, start, legalSize, entryFits, contentsVerdict, bodyVerdict, fileVerdict};
-ghost use Rattle.casefile.specs.Required.{HeadRead, BodyInside};
+ghost use Rattle.casefile.specs.Required.{HeadRead, BodyInside, FitTold};
 use crate::reading::read_body;
 use rules::Refusal;
 use rules::Verdict;
-use unit::check_unit;
+use unit::check_numbers;
 
-// A body: its zone count against its length, then its unit.
-pub fn check_body(body: &[u8]) -> Verdict
+// Whether a body has at most four zones and the length that they ask for.
+pub fn body_fits(body: &[u8]) -> bool
+    requires { ⌜ 26 ≤ length (now body) ⌝ }
+    ensures { λ r. ⌜ FitTold (now (body .entry)) r ⌝ }
+{
+    let zone_count = fields::read_u16(body, 24) as usize;
+    if zone_count > 4 {
+        return false;
+    }
+    body.len() == 26 + 4 * zone_count
+}
+
+// A body: its zone count against its length, then the numbers of its unit.
+fn check_body(body: &[u8]) -> Verdict
     requires { ⌜ 26 ≤ length (now body) ⌝ }
     ensures { λ r. ⌜ r ≡ bodyVerdict (now (body .entry)) ⌝ }
 {
-    let zone_count = fields::read_u16(body, 24) as usize;
-    if zone_count > 4 || body.len() != 26 + 4 * zone_count {
+    if !body_fits(body) {
         return Verdict::Refused(Refusal::ZoneCountInvalid);
     }
-    check_unit(read_body(body))
+    check_numbers(read_body(body))
 }
 
 // The head, read only once the file is long enough for one.

@@ -1,4 +1,5 @@
 // Case files, as document 01 lays them out: checking one, and reading one that is accepted.
+// A caller that decodes a file checks it place by place, and reads each body once.
 // What each function answers is equated with the definitions of crate `rules`.
 mod accepted;
 mod checking;
@@ -7,4 +8,9 @@ mod reading;
 pub use accepted::count;
 pub use accepted::demand;
 pub use accepted::read_unit;
+pub use checking::body_fits;
+pub use checking::body_of;
 pub use checking::check;
+pub use checking::check_contents;
+pub use checking::check_head;
+pub use reading::read_body;

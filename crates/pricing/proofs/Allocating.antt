@@ -1,93 +1,85 @@
--- A loop that gives the units their outputs one by one: what stands so far, with what is still to come, is the whole.
-use mathlib.Core.Path.{_≡_, refl, sym, ap, _∙_}
+-- A loop that gives the units their outputs one by one: what stands so far, with what is still to come, is the whole. Of any output that is picked of an offer, so of the choices and of the greatest outputs.
+use mathlib.Core.Path.{_≡_, refl, sym, ap, _∙_, subst}
 use mathlib.Core.List.{List, [], _∷_, _++_, map, append-assoc, append-nil}
-use Prim.Native.Nat.{ℕ, suc, _+_, _≤_, _<_}
+use Prim.Native.Nat.{ℕ, _+_, _≤_, _<_}
 use native.Mathlib.Numerals.{add-one}
 use native.Mathlib.Omega.{arith}
-use lib.ListN.{length, getD, take, drop, set, replicate, length-set, drop-of-length-le}
-use lib.Seq.{drop-cons, take-suc-set, getD-set-other}
+use lib.ListN.{length, getD, take, drop, set, length-set, drop-of-length-le}
+use lib.Seq.{drop-cons, take-suc-set}
 use Rattle.rules.specs.Unit.{Unit, cost, net}
 use Rattle.rules.specs.Problem.{totalCost, totalNet, Offer, Problem, unitsOf}
 use Rattle.rules.proofs.Economics.Quantities.{cost-range, net-range}
-use Rattle.pricing.specs.declared.Offer as code-offer
-use Rattle.pricing.specs.declared.Allocation as code-allocation
-use Rattle.pricing.specs.OfferHeld.{unitOf, Coefficients, Holds}
-use Rattle.pricing.specs.Totals.{nothingOffered, HoldsOutputs, Sized}
-use Rattle.pricing.proofs.Range.{sound}
-use Rattle.pricing.proofs.OfferHeld.{cost-held, net-held}
+use Rattle.site.specs.Site.{Coefficients, noOffer, HoldsOffer, HoldsProblem}
+use Rattle.pricing.specs.declared.Sums as code
+use Rattle.pricing.specs.Totals.{Held, HoldsOutputs, Sized, Allocates}
 
--- ---- nothing allocated, and one unit more
+module _ (pick : Offer → ℕ) where
+  -- of a problem: the first i units have their outputs
+  module _ (q : Problem) where
+    abbrev left : ℕ → List Offer
+    left i = drop i (q .offers)
 
--- no output of any unit
-abbrev pub nothing : code-allocation.Allocation
-nothing = record { outputs = replicate 32 0; cost = 0; net = 0 }
+    abbrev units : List Offer → List Unit
+    units os = map (λ o. o .unit) os
 
--- with output p of unit i, which is o
-abbrev pub added : code-allocation.Allocation → ℕ → code-offer.Offer → ℕ → code-allocation.Allocation
-added a i o p = record { outputs = set (a .outputs) i p; cost = a .cost + cost (unitOf o) p; net = a .net + net (unitOf o) p }
+    pub record Placed (outputs : List ℕ) (c n i : ℕ) : Type 0 where
+      pub places : take i outputs ++ map pick (left i) ≡ map pick (q .offers)
+      pub cost : c + totalCost (units (left i)) (map pick (left i)) ≡ totalCost (unitsOf q) (map pick (q .offers))
+      pub net : n + totalNet (units (left i)) (map pick (left i)) ≡ totalNet (unitsOf q) (map pick (q .offers))
 
--- ---- numbers in range
+    module _ {outputs : List ℕ} {c n i : ℕ} (s : Placed outputs c n i) where
+      placed-more : {r x y : ℕ} → i < length outputs → i < length (q .offers) → let o = getD (q .offers) i noOffer in r ≡ pick o → x ≡ cost (o .unit) r → y ≡ net (o .unit) r → Placed (set outputs i r) (c + x) (n + y) (i + 1)
+      unfolding totalCost totalNet
+      placed-more {r} {x} {y} h l e d f =
+          let o = getD (q .offers) i noOffer in
+          let next : left i ≡ o ∷ left (i + 1) = drop-cons (q .offers) i noOffer l ∙ ap (λ (k : ℕ). o ∷ drop k (q .offers)) (sym (add-one i)) in
+          let placed : take (i + 1) (set outputs i r) ≡ take i outputs ++ (pick o ∷ []) = rw (add-one i, e) (take-suc-set outputs i (pick o) h) in
+          record {
+            places = rw placed (append-assoc (take i outputs) (pick o ∷ []) (map pick (left (i + 1))) ∙ (rw next at (s .places)));
+            cost = omega (arith, ap (cost (o .unit)) e, rw next at (s .cost));
+            net = omega (arith, ap (net (o .unit)) e, rw next at (s .net));
+          }
 
-pub sized-starts : Sized 0 nothing
-sized-starts = record { cost = omega arith; net = omega arith; length = refl; rest = zeros }
-  where
-    zero-at : (n i : ℕ) → getD {A = ℕ} (replicate n 0) i 0 ≡ 0
-    zero-at ℕ.zero i = refl
-    zero-at (suc n) ℕ.zero = refl
-    zero-at (suc n) (suc i) = zero-at n i
+      placed-ends : i ≡ length (q .offers) → HoldsOutputs q (map pick (q .offers)) outputs (record { cost = c; net = n })
+      unfolding totalCost totalNet
+      placed-ends e =
+          let none : left i ≡ [] = drop-of-length-le (q .offers) {i = i} (omega arith) in
+          record {
+            places = rw (← e) (sym (append-nil (take i outputs)) ∙ (rw none at (s .places)));
+            cost = omega (arith, rw none at (s .cost));
+            net = omega (arith, rw none at (s .net));
+          }
 
-    zeros : (i : ℕ) → 0 ≤ i → getD {A = ℕ} (replicate 32 0) i 0 ≡ 0
-    zeros i h = zero-at 32 i
+  -- of whichever problem the arrays hold
+  pub record Allocating (coefficients ends ranges : List ℕ) (n : ℕ) (outputs : List ℕ) (c w i : ℕ) : Type 0 where
+    pub within : i ≤ n
+    pub room : n ≤ length outputs
+    pub sized : Sized i (record { cost = c; net = w })
+    pub held : (q : Problem) → HoldsProblem coefficients ends ranges n q → Placed q outputs c w i
 
-pub sized-more : {o : code-offer.Offer} {i p : ℕ} {a : code-allocation.Allocation} → Sized i a → Coefficients o → p ≤ 10000 → Sized (i + 1) (added a i o p)
-sized-more {i = i} {p} {a} s k h =
-    record {
-      cost = omega (arith, cost-range (sound k) h);
-      net = omega (arith, net-range (sound k) h);
-      length = length-set (a .outputs) i p ∙ s .length;
-      rest = λ j l. getD-set-other (a .outputs) i j p 0 (λ e. omega arith) ∙ s .rest j (omega arith);
-    }
+  module _ {coefficients ends ranges : List ℕ} {n : ℕ} (g : Held coefficients ends ranges n) where
+    pub allocating-starts : {outputs : List ℕ} → n ≤ length outputs → Allocating coefficients ends ranges n outputs 0 0 0
+    allocating-starts room = record { within = omega arith; room = room; sized = record { cost = omega arith; net = omega arith }; held = λ q h. record { places = refl; cost = omega arith; net = omega arith } }
 
--- ---- the outputs that are picked, with their cost and net
+    module _ {outputs : List ℕ} {c w i : ℕ} (s : Allocating coefficients ends ranges n outputs c w i) where
+      -- unit i of that problem
+      pub offered : i < n → HoldsOffer coefficients ends ranges i (getD (g .problem .offers) i noOffer)
+      offered l = g .holds .offers i l
 
-module _ (pick : Offer → ℕ) (p : Problem) where
-  abbrev left : ℕ → List Offer
-  left i = drop i (p .offers)
+      module _ {r x y : ℕ} (l : i < n) (small : r ≤ 10000) (e : (q : Problem) → HoldsProblem coefficients ends ranges n q → r ≡ pick (getD (q .offers) i noOffer)) (d : (u : Unit) → Coefficients coefficients i u → x ≡ cost u r) (f : (u : Unit) → Coefficients coefficients i u → y ≡ net u r) where
+        pub sized-more : Sized (i + 1) (record { cost = c + x; net = w + y })
+        sized-more =
+            let u = offered l .unit in
+            record { cost = omega (arith, s .sized .cost, d _ u, cost-range (u .sound) small); net = omega (arith, s .sized .net, f _ u, net-range (u .sound) small) }
 
-  abbrev picked : List Offer → List ℕ
-  picked fs = map pick fs
+        pub allocating-more : Allocating coefficients ends ranges n (set outputs i r) (c + x) (w + y) (i + 1)
+        allocating-more =
+            record {
+              within = omega arith;
+              room = rw (length-set outputs i r) (s .room);
+              sized = sized-more;
+              held = λ q h. placed-more q (s .held q h) (omega (arith, s .room)) (omega (arith, h .count)) (e q h) (d _ (h .offers i l .unit)) (f _ (h .offers i l .unit));
+            }
 
-  abbrev units : List Offer → List Unit
-  units fs = map (λ f. f .unit) fs
-
-  pub record Allocating (a : code-allocation.Allocation) (i : ℕ) : Type 0 where
-    pub outputs : take i (a .outputs) ++ picked (left i) ≡ picked (p .offers)
-    pub cost : a .cost + totalCost (units (left i)) (picked (left i)) ≡ totalCost (unitsOf p) (picked (p .offers))
-    pub net : a .net + totalNet (units (left i)) (picked (left i)) ≡ totalNet (unitsOf p) (picked (p .offers))
-
-  pub allocating-starts : Allocating nothing 0
-  allocating-starts = record { outputs = refl; cost = omega arith; net = omega arith }
-
-  -- o stands for unit i, and r is what is picked of it
-  pub allocating-more : {a : code-allocation.Allocation} {o : code-offer.Offer} {i r : ℕ} → Allocating a i → i < length (a .outputs) → i < length (p .offers) → Holds o (getD (p .offers) i nothingOffered) → r ≡ pick (getD (p .offers) i nothingOffered) → Allocating (added a i o r) (i + 1)
-  unfolding totalCost totalNet
-  allocating-more {a} {o} {i} {r} s h l k e =
-      let f = getD (p .offers) i nothingOffered in
-      let next : left i ≡ f ∷ left (i + 1) = drop-cons (p .offers) i nothingOffered l ∙ ap (λ (n : ℕ). f ∷ drop n (p .offers)) (sym (add-one i)) in
-      let placed : take (i + 1) (set (a .outputs) i r) ≡ take i (a .outputs) ++ (pick f ∷ []) =
-      rw (add-one i, e) (take-suc-set (a .outputs) i (pick f) h) in
-      record {
-        outputs = rw placed (append-assoc (take i (a .outputs)) (pick f ∷ []) (picked (left (i + 1))) ∙ (rw next at (s .outputs)));
-        cost = omega (arith, cost-held k r, ap (cost (f .unit)) e, rw next at (s .cost));
-        net = omega (arith, net-held k r, ap (net (f .unit)) e, rw next at (s .net));
-      }
-
-  pub allocating-ends : {a : code-allocation.Allocation} {i : ℕ} → Allocating a i → i ≡ length (p .offers) → HoldsOutputs p (picked (p .offers)) a
-  unfolding totalCost totalNet
-  allocating-ends {a} {i} s e =
-      let none : left i ≡ [] = drop-of-length-le (p .offers) {i = i} (omega arith) in
-      record {
-        outputs = rw (← e) (sym (append-nil (take i (a .outputs))) ∙ (rw none at (s .outputs)));
-        cost = omega (arith, rw none at (s .cost));
-        net = omega (arith, rw none at (s .net));
-      }
+      pub allocating-ends : i ≡ n → Allocates pick coefficients ends ranges n outputs (record { cost = c; net = w })
+      allocating-ends e = record { sized = subst (λ (k : ℕ). Sized k (record { cost = c; net = w })) e (s .sized); held = λ q h. placed-ends q (s .held q h) (omega (arith, h .count)) }

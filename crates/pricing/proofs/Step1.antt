@@ -1,22 +1,87 @@
--- Step 1: every unit has a permitted output, and the greatest outputs cover the demand.
-use mathlib.Core.Path.{_≡_}
-use mathlib.Core.Bool.{Bool, true, false, false≢true}
-use Prim.Native.Nat.{_*_}
-use lib.Dec.{leb}
-use Rattle.rules.specs.Bisection.{solvable}
-use Rattle.pricing.specs.declared.Problem as code-problem
-use Rattle.pricing.specs.declared.Allocation as code-allocation
-use Rattle.pricing.specs.Totals.{GreatestOutputs, Permits, Solvable}
+-- Step 1 of a file whose problem the arrays hold: every unit has an output, so that the case is accepted exactly if the greatest outputs cover. And what pricing answers, case by case.
+use mathlib.Core.Path.{_≡_, ap, ap₂}
+use mathlib.Core.Bool.{Bool, true, false}
+use mathlib.Core.List.{List}
+use Prim.Native.Nat.{ℕ, _+_, _*_, _≤_, _<_}
+use native.Mathlib.Omega.{arith}
+use lib.Dec.{ltb, leb}
+use lib.IntN.{ℤ}
+use lib.ListN.{length}
+use borrow.Author.Tests.{lt-ltb, le-ltb, lt-leb, le-leb}
+use Rattle.rules.specs.Lists.{all, greatest}
+use Rattle.rules.specs.Problem.{Offer, Problem, totalNet, unitsOf, target, problemIn}
+use Rattle.rules.specs.Choice.{choice, choices, dualValue}
+use Rattle.rules.specs.Bisection.{greatestOutputs, solvable}
+use Rattle.rules.specs.Calls.{caseVerdict, priceVerdict, priceEnds, priced}
+use Rattle.rules.specs.declared.Refusal.{Refusal}
+use Rattle.rules.specs.declared.Refusal.the-variants.{NoAllocation, MultiplierOutOfRange}
+use Rattle.rules.specs.declared.Verdict.the-variants.{Refused}
+use Rattle.rules.specs.declared.Priced.{Priced}
+use Rattle.rules.proofs.Lists.{every-from, all-every}
+use Rattle.rules.proofs.Integers.{Is, same}
+use Rattle.rules.proofs.Economics.Chosen.{some-among}
+use Rattle.rules.proofs.Economics.Allocations.{dual-is}
+use Rattle.site.specs.Site.{noOffer, HoldsOffer, HoldsProblem, Site}
+use Rattle.pricing.specs.declared.Sums as code
+use Rattle.pricing.specs.Totals.{Allocates, Dualable}
+use Rattle.pricing.specs.Step1.{First}
+use Rattle.pricing.proofs.Regions.{lowest}
 
-module _ {q : code-problem.Problem} {r : Bool} (k : Permits q r) where
-  pub unpermitted : r ≡ false → Solvable q false
-  unfolding solvable
-  unpermitted e = record { held = λ p h. rw (← (k .held p h), e); permitted = λ f. absurd (false≢true f) }
+-- ---- the verdict on the case
 
-  pub covering : {a : code-allocation.Allocation} → r ≡ true → GreatestOutputs q a → Solvable q (leb (100000000 * q .demand) (a .net))
+abbrev offersSome : Offer → Bool
+offersSome o = ltb 0 (length (o .outputs))
+
+held-some : {coefficients ends ranges : List ℕ} {i : ℕ} {o : Offer} → HoldsOffer coefficients ends ranges i o → offersSome o ≡ true
+held-some {o = o} h = lt-ltb 0 (length (o .outputs)) (some-among _ (o .outputs) (h .outputs _ .1 (lowest (h .regions))))
+
+every-some : {coefficients ends ranges : List ℕ} {n : ℕ} {q : Problem} → HoldsProblem coefficients ends ranges n q → all offersSome (q .offers) ≡ true
+every-some {q = q} h = all-every offersSome (q .offers) .1 (every-from (λ o. offersSome o ≡ true) (q .offers) noOffer (λ i l. held-some (h .offers i (omega (arith, h .count)))))
+
+module _ {file coefficients ends ranges : List ℕ} {n t : ℕ} (s : Site file coefficients ends ranges n t) {outputs : List ℕ} {c w : ℕ} (a : Allocates (λ o. greatest (o .outputs)) coefficients ends ranges n outputs (record { cost = c; net = w })) where
+  greatest-net : w ≡ totalNet (unitsOf (problemIn file)) (greatestOutputs (problemIn file))
+  unfolding greatestOutputs
+  greatest-net = a .held (problemIn file) (s .holds) .net
+
+  solved : (b : Bool) → leb t w ≡ b → solvable (problemIn file) ≡ b
   unfolding solvable
-  covering {a} e g =
-      record {
-        held = λ p h. rw (← (k .held p h), e, ← (g .outputs p h .net), h .demand);
-        permitted = λ f. k .permitted e;
-      }
+  solved b e = rw (every-some (s .holds), ← s .demanded, ← greatest-net) e
+
+  pub uncovered : w < t → caseVerdict file ≡ Refused NoAllocation
+  unfolding caseVerdict
+  uncovered h = rw (s .accepted, solved false (lt-leb t w h))
+
+  pub covered : t ≤ w → First file coefficients ends ranges outputs n t c w
+  unfolding caseVerdict
+  covered h = record { accepted = rw (s .accepted, solved true (le-leb t w h)); site = s; allocates = a; covers = h }
+
+-- ---- what pricing answers
+
+module _ (file : List ℕ) {m : ℕ} where
+  pub multiplier-refused : 65536 < m → Priced.Refused MultiplierOutOfRange ≡ priced file m
+  unfolding priced priceVerdict priceEnds
+  multiplier-refused h = rw (lt-ltb 65536 m h)
+
+  module _ (h : m ≤ 65536) where
+    pub case-refused : {r : Refusal} → caseVerdict file ≡ Refused r → Priced.Refused r ≡ priced file m
+    unfolding priced priceVerdict priceEnds
+    case-refused e = rw (le-ltb 65536 m h, e)
+
+    module _ {coefficients ends ranges first : List ℕ} {n t c w : ℕ} (f : First file coefficients ends ranges first n t c w) where
+      -- the range of the dual value
+      pub dualable : {outputs : List ℕ} {s : code.Sums} → Allocates (choice m) coefficients ends ranges n outputs s → Dualable s t m
+      dualable a =
+          let g = f .site .holds in
+          record {
+            sized = record { cost = omega (arith, a .sized .cost, g .few); net = omega (arith, a .sized .net, g .few) };
+            target = omega (arith, f .site .demanded, g .demand);
+            multiplier = h;
+          }
+
+      pub valued : {outputs : List ℕ} {s : code.Sums} {d : ℤ} → Allocates (choice m) coefficients ends ranges n outputs s → Is d (100000 * s .cost + m * t) (m * s .net) → Priced.Valued d (leb t (s .net)) ≡ priced file m
+      unfolding priced priceVerdict priceEnds choices
+      valued {outputs} {s} {d} a k =
+          let q = problemIn file in
+          let o = a .held q (f .site .holds) in
+          let same-dual : d ≡ dualValue m q = same k (dual-is m q) (omega (arith, o .cost, ap (λ (x : ℕ). m * x) (o .net), ap (λ (x : ℕ). m * x) (f .site .demanded))) in
+          rw (le-ltb 65536 m h, f .accepted) (ap₂ Priced.Valued same-dual (ap₂ leb (f .site .demanded) (o .net)))

@@ -1,22 +1,44 @@
 -- What the functions on the way to a unit's choice ask and answer.
-use Prim.Native.Nat.{ℕ, _≤_}
-use mathlib.Core.Path.{_≡_}
+use Prim.Native.Nat.{ℕ, _≤_, _<_}
+use mathlib.Core.List.{List}
 use lib.IntN.{ℤ}
-use Rattle.rules.specs.Problem.{Offer}
-use Rattle.rules.specs.Choice.{choice}
-use Rattle.rules.proofs.Integers.{up, dn}
-use Rattle.pricing.specs.declared.Offer as code-offer
-use Rattle.pricing.specs.OfferHeld.{Holds}
+use lib.Signed.{_≤ℤ_, _<ℤ_}
+use Rattle.site.specs.Site.{low, high, Regions}
+use Rattle.pricing.specs.Curve.{height, InRange}
+use Rattle.pricing.specs.declared.Curve.{Curve}
 
--- a × p² + l × p + c is in range
-pub record Priceable (a : ℕ) (l : ℤ) (c p : ℕ) : Type 0 where
-  pub constant : c ≤ 1000000000000000
-  pub square : a ≤ 1000000000
-  pub above : up l ≤ 10000000000000
-  pub below : dn l ≤ 10000000000000
-  pub output : p ≤ 10000
+-- on from..to the function f does not rise up to v and rises strictly from v
+pub record Valley (f : ℕ → ℤ) (from to v : ℕ) : Type 0 where
+  pub falls : (p q : ℕ) → from ≤ p → p ≤ q → q ≤ to → q ≤ v → f q ≤ℤ f p
+  pub rises : (p q : ℕ) → from ≤ p → p < q → q ≤ to → v ≤ p → f p <ℤ f q
 
--- the choice of whatever offer the struct stands for
-pub record Chooses (o : code-offer.Offer) (m r : ℕ) : Type 0 where
-  pub output : r ≤ 10000
-  pub held : (f : Offer) → Holds o f → r ≡ choice m f
+-- regions first to last that the arrays have
+pub record Places (first last : ℕ) : Type 0 where
+  pub some : first ≤ last
+  pub few : last < 192
+
+-- k is the first region whose high reaches v, or the last
+pub record Reaching (ends : List ℕ) (first last v k : ℕ) : Type 0 where
+  pub from : first ≤ k
+  pub to : k ≤ last
+  pub below : (j : ℕ) → first ≤ j → j < k → high ends j < v
+  pub reaches : k < last → v ≤ high ends k
+
+-- regions of running outputs
+pub record Running (ends : List ℕ) (first last : ℕ) (c : Curve) : Type 0 where
+  pub few : last < 192
+  pub regions : Regions ends first last
+  pub runs : 1 ≤ low ends first
+  pub curve : InRange c
+
+-- with the vertex between them
+pub record Beside (ends : List ℕ) (first last : ℕ) (c : Curve) (v : ℕ) : Type 0 where
+  pub running : Running ends first last c
+  pub from : low ends first ≤ v
+  pub to : v ≤ high ends last
+  pub valley : Valley (height c) (low ends first) (high ends last) v
+
+pub record Choosable (ends : List ℕ) (first last : ℕ) (c : Curve) : Type 0 where
+  pub few : last < 192
+  pub regions : Regions ends first last
+  pub curve : InRange c

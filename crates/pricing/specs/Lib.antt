@@ -1,7 +1,4 @@
-pub mod Turn
-pub mod Regions
-pub mod OfferHeld
+pub mod Curve
 pub mod Choosing
 pub mod Totals
-pub mod Offering
-pub mod Priced
+pub mod Step1

@@ -1,62 +1,42 @@
-// From a case file to its problem and its prices.
+// From a case file's bytes to step 1 and to its prices.
 ghost use mathlib.Core.Path.{_≡_};
-ghost use Prim.Native.Nat.{_≤_};
-ghost use Rattle.rules.specs.Refusal.{fileVerdict};
-ghost use Rattle.rules.specs.Problem.{Problem as RulesProblem};
 ghost use Rattle.rules.specs.Calls.{priced};
-ghost use Rattle.pricing.specs.Totals.{BoundedProblem, HoldsProblem};
-ghost use Rattle.pricing.specs.Priced.{ProblemIn, pricedIn};
-use crate::Offer;
-use crate::Problem;
-use crate::offering::regions;
+ghost use Rattle.pricing.specs.Step1.{FindsFirst};
+use crate::FirstBest;
+use crate::Sums;
+use crate::totals::dual_of;
 use crate::totals::evaluate;
-use crate::totals::solvable;
+use crate::totals::greatest_outputs;
 use rules::Priced;
 use rules::Refusal;
-use rules::Verdict;
+use site::Decoded;
 
-// The problem in an accepted file.
-pub fn problem_in(file: &[u8]) -> Problem
-    requires { ⌜ fileVerdict (now file) ≡ Verdict.Accepted ⌝ }
-    ensures { λ r. ⌜ ProblemIn (now (file .entry)) r ⌝ }
+// Checks and decodes a case file and runs step 1: writes the site's arrays and the greatest outputs, or refuses the case.
+pub fn first_best(
+    file: &[u8],
+    coefficients: &mut [u64; 128],
+    ends: &mut [u16; 384],
+    ranges: &mut [u8; 64],
+    outputs: &mut [u16; 32],
+) -> FirstBest
+    ensures { λ r. ⌜ FindsFirst (now (file .entry)) (now (coefficients .exit)) (now (ends .exit)) (now (ranges .exit)) (now (outputs .exit)) r ⌝ }
 {
-    let count = casefile::count(file);
-    let demand = casefile::demand(file) as u64;
-    let none = Offer {
-        c0: 0,
-        c1: 0,
-        c2: 0,
-        b: 0,
-        regions: 0,
-        lows: [0u16; 6],
-        highs: [0u16; 6],
-    };
-    let mut offers = [none; 32];
-    let mut i = 0;
-    while i < count {
-        offers[i] = regions(casefile::read_unit(file, i));
-        i += 1;
-    }
-    Problem {
-        demand,
-        count,
-        offers,
-    }
-}
-
-// What pricing answers for a problem: step 1, then one evaluation.
-fn price_problem(q: Problem, m: u64) -> Priced
-    requires { ⌜ (BoundedProblem q) × (m ≤ 65536) ⌝ }
-    ensures { λ r. ⌜ ((p : RulesProblem) → HoldsProblem q p → r ≡ pricedIn m p) ⌝ }
-{
-    if !solvable(q) {
-        return Priced::Refused(Refusal::NoAllocation);
-    }
-    let e = evaluate(q, m);
-    let a = e.choices;
-    Priced::Valued {
-        dual: e.dual,
-        covers: 100000000 * q.demand <= a.net,
+    let decoded = site::decode(file, coefficients, ends, ranges);
+    match decoded {
+        Decoded::Refused(r) => FirstBest::Refused(r),
+        Decoded::Site { count, target } => {
+            let s = greatest_outputs(coefficients, ends, ranges, count, outputs);
+            let Sums { cost, net } = s;
+            if net < target {
+                return FirstBest::Refused(Refusal::NoAllocation);
+            }
+            FirstBest::Found {
+                count,
+                target,
+                cost,
+                net,
+            }
+        }
     }
 }
 
@@ -67,9 +47,27 @@ pub fn price(file: &[u8], m: u32) -> Priced
     if m > 65536 {
         return Priced::Refused(Refusal::MultiplierOutOfRange);
     }
-    let verdict = casefile::check(file);
-    match verdict {
-        Verdict::Refused(r) => Priced::Refused(r),
-        Verdict::Accepted => price_problem(problem_in(file), m as u64),
+    let mut coefficients = [0u64; 128];
+    let mut ends = [0u16; 384];
+    let mut ranges = [0u8; 64];
+    let mut outputs = [0u16; 32];
+    let first = first_best(
+        file,
+        &mut coefficients,
+        &mut ends,
+        &mut ranges,
+        &mut outputs,
+    );
+    match first {
+        FirstBest::Refused(r) => Priced::Refused(r),
+        FirstBest::Found { count, target, .. } => {
+            let x = m as u64;
+            let mut choices = [0u16; 32];
+            let s = evaluate(&coefficients, &ends, &ranges, count, x, &mut choices);
+            Priced::Valued {
+                dual: dual_of(s, target, x),
+                covers: target <= s.net,
+            }
+        }
     }
 }

@@ -1,5 +1,6 @@
 // A unit and its checks, refusals 7 to 10. They serve the bodies of a file and the planner's rows alike.
 ghost use mathlib.Core.Path.{_≡_};
+ghost use mathlib.Core.Bool.{false};
 ghost use Prim.Native.Nat.{_≤_};
 ghost use lib.Dec.{eqb};
 ghost use lib.ListN.{drop};
@@ -147,13 +148,11 @@ fn ramp_or_mark_out_of_range(u: Unit) -> bool
     mark > 1
 }
 
-// The first refusal of a unit.
-pub fn check_unit(u: Unit) -> Verdict
+// The first refusal of a unit whose zone count and unused edges are right.
+pub fn check_numbers(u: Unit) -> Verdict
+    requires { ⌜ zoneCountInvalid (unitHeld u) ≡ false ⌝ }
     ensures { λ r. ⌜ r ≡ unitVerdict (unitHeld u) ⌝ }
 {
-    if zone_count_invalid(u) {
-        return Verdict::Refused(Refusal::ZoneCountInvalid);
-    }
     if coefficient_out_of_range(u) {
         return Verdict::Refused(Refusal::CoefficientOutOfRange);
     }
@@ -164,4 +163,14 @@ pub fn check_unit(u: Unit) -> Verdict
         return Verdict::Refused(Refusal::RampOrMarkOutOfRange);
     }
     Verdict::Accepted
+}
+
+// The first refusal of a unit.
+pub fn check_unit(u: Unit) -> Verdict
+    ensures { λ r. ⌜ r ≡ unitVerdict (unitHeld u) ⌝ }
+{
+    if zone_count_invalid(u) {
+        return Verdict::Refused(Refusal::ZoneCountInvalid);
+    }
+    check_numbers(u)
 }

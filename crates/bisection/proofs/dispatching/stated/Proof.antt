@@ -24,14 +24,11 @@ sub-t10 c = let s = c .before .before .before in gap-fits (s .pre) (floor-fits s
 cast-t11 : tie.Need-cast-t11
 cast-t11 c = let s = c .before .before .before in (gap-not-negative (s .pre) (floor-fits s), record { fits = gap-small (s .pre) (floor-fits s) })
 
-mul-t12 : tie.Need-mul-t12
-mul-t12 c = search needs
-
-sub-t13 : tie.Need-sub-t13
-sub-t13 c = search needs
+sub-t12 : tie.Need-sub-t12
+sub-t12 c = search needs
 
 returns : tie.Need-returns
-returns c = let s = c .before .before .before .before in states (s .pre) (floor-fits s) (outputs-long s)
+returns c = let s = c .before .before .before in states (s .pre) (floor-fits s) (outputs-long s)
 
 pub stated-spec : {M : Type 1} → statement M
-stated-spec = tie.close (tie.spec cast-t9 sub-t10 cast-t11 mul-t12 sub-t13 returns)
+stated-spec = tie.close (tie.spec cast-t9 sub-t10 cast-t11 sub-t12 returns)

@@ -1,59 +1,35 @@
 -- `casefile::checking::check_body` meets its contract.
-use Prim.Native.Nat.{_+_, _*_}
-use native.Mathlib.Omega.{arith}
-use mathlib.Core.Logic.{⊎-elim}
-use mathlib.Core.Path.{_≡_, ap, sym, _∙_}
-use lib.ListN.{length}
-use borrow.Author.Tests.{eqb-true, eqb-false, not-true, not-false}
+use mathlib.Core.Path.{ap, sym, _∙_}
+use borrow.Author.Tests.{not-true, not-false}
 use borrow.Author.Needs.{needs}
 use denote.Ref.{now}
-use Rattle.rules.specs.Refusal.{unitVerdict}
-use Rattle.casefile.proofs.Body.{body-misfits, body-fits}
+use Rattle.rules.specs.Refusal.{zoneCountInvalid, unitVerdict}
+use Rattle.casefile.specs.Required.{BodyFits}
+use Rattle.casefile.proofs.Body.{body-fits, zone-count-fits}
 use Rattle.casefile.proofs.checking.check_body.Statement.{statement}
 use Rattle.casefile.proofs.checking.check_body.Tie as tie
 
-read-u16-requires : tie.Need-read-u16-requires
-read-u16-requires c κs = search needs
+-- the body passes the test
+fits : (c : tie.Else1) → BodyFits (now (c .before .before .before .args .body))
+fits c = c .before .body-fits .ensures .fits (not-false _ (c .if1 .left))
 
-cast-zone-count : tie.Need-cast-zone-count
-cast-zone-count c = search needs
-
-mul-if2 : tie.Need-mul-if2
-mul-if2 c = search needs
-
-add-if2 : tie.Need-add-if2
-add-if2 c = search needs
+body-fits-requires : tie.Need-body-fits-requires
+body-fits-requires c κs = search needs
 
 returns : tie.Need-returns
-returns c =
-    let a = c .before .before .before .args in
-    let z = c .before .read-u16 .result in
-    sym (body-misfits (now (a .body)) (⊎-elim (λ w. omega arith) (λ w. omega (arith, eqb-false (length (now (a .body))) (26 + 4 * z) (not-true _ (w .1 .taken)))) (c .if1 .came)))
+returns c = sym (c .before .body-fits .ensures .misfits (not-true _ (c .if1 .taken)))
 
 read-body-requires : tie.Need-read-body-requires
-read-body-requires c κs =
-    let a = c .before .before .before .before .args in
-    let z = c .before .before .read-u16 .result in
-    let e : length (now (a .body)) ≡ 26 + 4 * z = eqb-true (length (now (a .body))) (26 + 4 * z) (not-false _ (c .if2 .left)) in
-    record { zones = omega arith; size = omega arith }
+read-body-requires c κs = fits c
 
-check-unit-requires : tie.Need-check-unit-requires
-check-unit-requires c κs = search needs
+check-numbers-requires : tie.Need-check-numbers-requires
+check-numbers-requires c κs = ap zoneCountInvalid (c .read-body .ensures) ∙ zone-count-fits _ (fits (c .before) .zones)
 
 returns-2 : tie.Need-returns-2
 returns-2 c =
-    let a = c .before .before .before .before .before .before .args in
-    c .check-unit .ensures ∙ ap unitVerdict (c .before .read-body .ensures) ∙ sym (body-fits (now (a .body)) (read-body-requires (c .before .before) (c .before .read-body .lifetimes)))
+    c .check-numbers .ensures ∙ ap unitVerdict (c .before .read-body .ensures) ∙ sym (body-fits _ (fits (c .before .before)))
 
 pub check-body-spec : {M : Type 1} → statement M
 check-body-spec =
     tie.close
-    (tie.spec
-    read-u16-requires
-    cast-zone-count
-    mul-if2
-    add-if2
-    returns
-    read-body-requires
-    check-unit-requires
-    returns-2)
+    (tie.spec body-fits-requires returns read-body-requires check-numbers-requires returns-2)

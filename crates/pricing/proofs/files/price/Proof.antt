@@ -1,50 +1,85 @@
--- `pricing::files::price` meets its contract: each return is a case of `Pricing`.
+-- `pricing::files::price` meets its contract: each return is a case of `Step1`.
+use mathlib.Core.Path.{subst}
+use mir.Syntax.{w64}
+use mir.Facts.{toZ-ofZ}
 use denote.Ref.{now}
-use Rattle.pricing.proofs.Pricing.{multiplier-refused, file-refused, file-accepted}
-use mathlib.Core.Path.{sym, _∙_}
 use borrow.Author.Needs.{needs}
+use Rattle.rules.proofs.Integers.{is-same}
+use Rattle.pricing.specs.Step1.{First, FindsFirst}
+use Rattle.pricing.proofs.Step1.{multiplier-refused, case-refused, dualable, valued}
 use Rattle.pricing.proofs.files.price.Statement.{statement}
 use Rattle.pricing.proofs.files.price.Tie as tie
 
 returns : tie.Need-returns
 returns c = multiplier-refused (now (c .before .before .args .file)) (c .if1 .taken)
 
-check-requires : tie.Need-check-requires
-check-requires c κs = search needs
+first-best-requires : tie.Need-first-best-requires
+first-best-requires c κs = search needs
 
-enum-known-verdict : tie.Need-enum-known-verdict
-enum-known-verdict c = search needs
+enum-known-first : tie.Need-enum-known-first
+enum-known-first c = search needs
 
-enum-told : tie.Need-enum-told
-enum-told c = search needs
+enum-known-first-2 : tie.Need-enum-known-first-2
+enum-known-first-2 c = search needs
 
-problem-in-requires : tie.Need-problem-in-requires
-problem-in-requires c κs = sym (c .before .before .check .ensures) ∙ c .enum-told .given .1
+-- ---- from step 1 back to the entry
 
-price-problem-requires : tie.Need-price-problem-requires
-price-problem-requires c κs = search needs
+abbrev passed : tie.After-first-best → tie.Else1
+passed c = c .before .before .before .before .before
+
+abbrev entry : tie.After-first-best → tie.Start
+entry c = passed c .before .before
 
 returns-2 : tie.Need-returns-2
 returns-2 c =
-    let h = c .before .before .before in
-    file-refused (now (h .before .before .before .args .file)) (h .before .if1 .left) (sym (h .check .ensures) ∙ c .before .verdict .given .1)
+    let d = c .before .before .before in
+    let l = d .first-best .last in
+    case-refused (now (entry d .args .file)) (passed d .if1 .left)
+    (subst (FindsFirst (now (entry d .args .file)) (l .1 .0) (l .1 .1 .0) (l .1 .1 .1 .0) (l .1 .1 .1 .1 .0)) (c .before .first .given .1) (d .first-best .ensures))
+
+module _ (c : tie.After-known-told2) where
+  abbrev d : tie.After-first-best
+  d = c .before .before .before
+
+  first : let l = d .first-best .last in let v = c .before .first2 .given .0 in First (now (entry d .args .file)) (l .1 .0) (l .1 .1 .0) (l .1 .1 .1 .0) (l .1 .1 .1 .1 .0) (v .0) (v .1 .0) (v .1 .1 .0) (v .1 .1 .1 .0)
+  first =
+      let l = d .first-best .last in
+      subst (FindsFirst (now (entry d .args .file)) (l .1 .0) (l .1 .1 .0) (l .1 .1 .1 .0) (l .1 .1 .1 .1 .0)) (c .before .first2 .given .1) (d .first-best .ensures)
+
+slice-aggregate-evaluate : tie.Need-slice-aggregate-evaluate
+slice-aggregate-evaluate c = search needs
+
+abbrev told : tie.After-choices → tie.After-known-told2
+told c = c .before .before .before .before
+
+evaluate-requires : tie.Need-evaluate-requires
+evaluate-requires c κs =
+    let f = first (told c) in
+    (record { held = record { problem = _; holds = f .site .holds }; multiplier = passed (d (told c)) .if1 .left }, f .site .holds .few)
+
+dual-of-requires : tie.Need-dual-of-requires
+dual-of-requires c κs =
+    let e = c .before in
+    let b = told (e .before) in
+    dualable (now (entry (d b) .args .file)) (passed (d b) .if1 .left) (first b) (e .evaluate .ensures)
 
 returns-3 : tie.Need-returns-3
 returns-3 c =
-    let told = c .before .before in
-    let h = told .before .before in
-    c .price-problem .ensures _ (c .before .problem-in .ensures .holds)
-    ∙ file-accepted (now (h .before .before .before .args .file)) (h .before .if1 .left) (sym (h .check .ensures) ∙ told .enum-told .given .1)
+    let h = c .before in
+    let e = h .before .before in
+    let b = told (e .before) in
+    valued (now (entry (d b) .args .file)) (passed (d b) .if1 .left) (first b) (e .evaluate .ensures) (is-same (toZ-ofZ {w = w64} (search needs)) (h .dual-of .ensures))
 
 pub price-spec : {M : Type 1} → statement M
 price-spec =
     tie.close
     (tie.spec
     returns
-    check-requires
-    enum-known-verdict
-    enum-told
-    problem-in-requires
-    price-problem-requires
+    first-best-requires
+    enum-known-first
+    enum-known-first-2
+    slice-aggregate-evaluate
+    evaluate-requires
+    dual-of-requires
     returns-2
     returns-3)

@@ -1,108 +1,138 @@
--- `pricing::totals::evaluate` meets its contract. The loop keeps what `Evaluating` says, and the dual value is made of the sums.
+-- `pricing::totals::evaluate` meets its contract: the loop keeps what `Allocating` says of the choices.
+use Prim.Native.Nat.{ℕ, _+_, _-_, _<_, _≤_}
+use mathlib.Core.Path.{_≡_, refl}
 use native.Mathlib.Omega.{arith}
-use Prim.Native.Nat.{_+_, _<_, _-_, _*_}
-use lib.IntN.{_-ℤ_}
-use mir.Syntax.{w64}
-use mir.Val.{toZ}
-use Rattle.rules.proofs.Integers.{Is, is-minus, cast, fits, kept}
-use Rattle.pricing.specs.Totals.{offerAt, Sized}
-use Rattle.pricing.proofs.Allocating.{added}
-use Rattle.pricing.proofs.Evaluating.{Evaluating, Sums, sums, evaluating-starts, more-sized, evaluating-more, evaluating-ends}
+use lib.ListN.{length, getD, length-set}
+use denote.Ref.{now}
+use Rattle.rules.specs.Problem.{Problem}
+use Rattle.rules.specs.Choice.{choice}
+use Rattle.rules.proofs.Economics.Quantities.{cost-range}
+use Rattle.site.specs.Site.{noOffer, HoldsOffer, HoldsProblem}
+use Rattle.pricing.specs.Totals.{Held, Sized}
+use Rattle.pricing.proofs.Regions.{small}
+use Rattle.pricing.proofs.Offers.{choosable, choice-held}
+use Rattle.pricing.proofs.Allocating.{Allocating, allocating-starts, offered, sized-more, allocating-more, allocating-ends}
 use Rattle.pricing.proofs.totals.evaluate.Statement.{statement}
 use Rattle.pricing.proofs.totals.evaluate.Tie as tie
 
 abbrev Inv-loop : tie.InvT-loop
-Inv-loop m q count outputs₀ total-cost₀ total-net₀ i₀ outputs total-cost total-net i = Evaluating q m (record { outputs = outputs; cost = total-cost; net = total-net }) i
+Inv-loop coefficients ends ranges n m outputs₀ cost₀ net₀ i₀ outputs cost net i = (length outputs ≡ length outputs₀) × Allocating (choice m) coefficients ends ranges n outputs cost net i
 
 abbrev μ-loop : tie.MeasureT-loop
-μ-loop m q count outputs₀ total-cost₀ total-net₀ i₀ outputs total-cost total-net i = q .count - i
+μ-loop coefficients ends ranges n m outputs₀ cost₀ net₀ i₀ outputs cost net i = n - i
 
 loop-holds : tie.Need-loop-holds Inv-loop μ-loop
-loop-holds c = evaluating-starts (c .pre)
+loop-holds c = let b = c .before in (refl, allocating-starts (choice (b .args .m)) (b .pre .0 .held) (b .pre .1))
 
--- unit i, which is below the count, and the numbers with its choice
-below : (c : tie.After-choose Inv-loop μ-loop) → c .before .before .before .loop .i < c .before .before .before .before .args .t1 .count
-below c = c .before .before .loop-test .taken
+-- ---- unit i
 
-next : (c : tie.After-choose Inv-loop μ-loop) → let l = c .before .before .before .loop in let q = c .before .before .before .before .args .t1 in Sized (l .i + 1) (added (record { outputs = l .outputs; cost = l .total-cost; net = l .total-net }) (l .i) (offerAt q (l .i)) (c .choose .result))
-next c = more-sized (c .before .before .before .before .pre) (c .before .before .before .loop .inv) (below c) (c .choose .ensures)
+module _ (c : tie.In-loop Inv-loop μ-loop) where
+  abbrev s : tie.Start Inv-loop μ-loop
+  s = c .before .before .before
 
-mul-o : tie.Need-mul-o Inv-loop μ-loop
-mul-o c = omega arith
+  abbrev i : ℕ
+  i = c .before .loop .i
 
-element-copy-out-o : tie.Need-element-copy-out-o Inv-loop μ-loop
-element-copy-out-o c = omega arith
+  abbrev g : Held (now (s .args .coefficients)) (now (s .args .ends)) (now (s .args .ranges)) (s .args .n)
+  g = s .pre .0 .held
+
+  few : i < 32
+  few = omega (arith, g .holds .few, c .loop-test .taken)
+
+  unit : HoldsOffer (now (s .args .coefficients)) (now (s .args .ends)) (now (s .args .ranges)) i (getD (g .problem .offers) i noOffer)
+  unit = offered (choice (s .args .m)) g (c .before .loop .inv .1) (c .loop-test .taken)
+
+mul-first : tie.Need-mul-first Inv-loop μ-loop
+mul-first c = omega (arith, few c)
+
+element-copy-out-first : tie.Need-element-copy-out-first Inv-loop μ-loop
+element-copy-out-first c = omega (arith, few c)
+
+cast-first : tie.Need-cast-first Inv-loop μ-loop
+cast-first c = let u = unit (c .before) in omega (arith, u .to, u .regions .some, few (c .before))
+
+mul-last : tie.Need-mul-last Inv-loop μ-loop
+mul-last c = omega (arith, few (c .before))
+
+add-last : tie.Need-add-last Inv-loop μ-loop
+add-last c = omega (arith, few (c .before))
+
+element-copy-out-last : tie.Need-element-copy-out-last Inv-loop μ-loop
+element-copy-out-last c = omega (arith, few (c .before))
+
+cast-last : tie.Need-cast-last Inv-loop μ-loop
+cast-last c = let u = unit (c .before .before) in omega (arith, u .to, few (c .before .before))
+
+curve-of-requires : tie.Need-curve-of-requires Inv-loop μ-loop
+curve-of-requires c κs =
+    let t = c .before .before in
+    record { few = few t; multiplier = s t .pre .0 .multiplier; unit = _; holds = unit t .unit }
 
 choose-requires : tie.Need-choose-requires Inv-loop μ-loop
-choose-requires c κs =
-    let e = c .before .before .before .pre in
-    let l = c .before .loop-test .taken in
-    record { bounded = e .bounded .offers _ l; multiplier = e .multiplier; some = e .permitted _ l }
+choose-requires c κs = let t = c .before .before .before in choosable (unit t) (few t) (c .curve-of .ensures .0)
+
+-- ---- its choice
+
+module _ (c : tie.After-choose Inv-loop μ-loop) where
+  abbrev t : tie.In-loop Inv-loop μ-loop
+  t = c .before .before .before .before
+
+  abbrev r : ℕ
+  r = c .choose .result
+
+  output : r ≤ 10000
+  output = small (unit t .regions) r (c .choose .ensures .candidate)
+
+  picked : (q : Problem) → HoldsProblem (now (s t .args .coefficients)) (now (s t .args .ends)) (now (s t .args .ranges)) (s t .args .n) q → r ≡ choice (s t .args .m) (getD (q .offers) (i t) noOffer)
+  picked q h =
+      let o = h .offers (i t) (t .loop-test .taken) in
+      choice-held o (c .before .curve-of .ensures .1 _ (o .unit)) (c .choose .ensures)
 
 mul-outputs : tie.Need-mul-outputs Inv-loop μ-loop
-mul-outputs c = omega arith
+mul-outputs c = omega (arith, few (t c))
 
-array-write-outputs : tie.Need-array-write-outputs Inv-loop μ-loop
-array-write-outputs c = omega arith
+slice-write-outputs : tie.Need-slice-write-outputs Inv-loop μ-loop
+slice-write-outputs c = omega (arith, t c .before .loop .inv .1 .room, t c .loop-test .taken)
 
-cost-requires : tie.Need-cost-requires Inv-loop μ-loop
-cost-requires c κs = (c .before .before .before .before .pre .bounded .offers _ (c .before .before .loop-test .taken) .coefficients, c .choose .ensures .output)
+cost-of-requires : tie.Need-cost-of-requires Inv-loop μ-loop
+cost-of-requires c κs = record { few = few (t c); output = output c; unit = _; holds = unit (t c) .unit }
 
-add-total-cost : tie.Need-add-total-cost Inv-loop μ-loop
-add-total-cost c = omega (arith, next (c .before) .cost, c .cost .ensures, c .before .before .before .before .before .pre .bounded .count, below (c .before))
+net-of-requires : tie.Need-net-of-requires Inv-loop μ-loop
+net-of-requires c κs = let d = c .before in record { few = few (t d); output = output d; unit = _; holds = unit (t d) .unit }
 
-net-requires : tie.Need-net-requires Inv-loop μ-loop
-net-requires c κs = (c .before .before .before .before .before .pre .bounded .offers _ (c .before .before .before .loop-test .taken) .coefficients, c .before .choose .ensures .output)
+-- ---- with its cost and net
 
-add-total-net : tie.Need-add-total-net Inv-loop μ-loop
-add-total-net c = omega (arith, next (c .before .before) .net, c .net .ensures, c .before .before .before .before .before .before .pre .bounded .count, below (c .before .before))
+next : (c : tie.After-net-of Inv-loop μ-loop) → let d = c .before .before in let l = t d .before .loop in Sized (l .i + 1) (record { cost = l .cost + c .before .cost-of .result; net = l .net + c .net-of .result })
+next c =
+    let d = c .before .before in
+    sized-more (choice (s (t d) .args .m)) (g (t d)) (t d .before .loop .inv .1) (t d .loop-test .taken) (output d) (picked d) (c .before .cost-of .ensures) (c .net-of .ensures)
+
+add-cost : tie.Need-add-cost Inv-loop μ-loop
+add-cost c = let d = c .before in let u = unit (t d) .unit in omega (arith, t d .before .loop .inv .1 .sized .cost, few (t d), c .cost-of .ensures _ u, cost-range (u .sound) (output d))
+
+add-net : tie.Need-add-net Inv-loop μ-loop
+add-net c = omega (arith, next c .net, few (t (c .before .before)))
 
 add-i : tie.Need-add-i Inv-loop μ-loop
-add-i c = omega arith
+add-i c = omega (arith, few (t (c .before .before)))
 
 loop-less : tie.Need-loop-less Inv-loop μ-loop
 loop-less c = omega arith
 
 loop-again : tie.Need-loop-again Inv-loop μ-loop
 loop-again c =
-    let h = c .before .before in
-    rw (c .before .cost .ensures, c .net .ensures)
-    (evaluating-more (h .before .before .before .before .pre) (h .before .before .before .loop .inv) (below h) (h .choose .ensures))
+    let d = c .before .before in (
+      simp length-set (t d .before .loop .inv .0),
+      allocating-more (choice (s (t d) .args .m)) (g (t d)) (t d .before .loop .inv .1) (t d .loop-test .taken) (output d) (picked d) (c .before .cost-of .ensures) (c .net-of .ensures),
+    )
 
--- the range of all that the dual value is made of, and the dual value as it is computed
-ended : (c : tie.After-loop Inv-loop μ-loop) → let l = c .before .loop in Sums (c .before .before .pre) (record { outputs = l .outputs; cost = l .total-cost; net = l .total-net })
-ended c = let l = c .before .loop in sums (c .before .before .pre) (l .inv .sized) (omega (arith, l .inv .within, c .before .before .pre .bounded .count))
-
-dual-is : (c : tie.After-loop Inv-loop μ-loop) → let l = c .before .loop in let a = c .before .before .args in Is (toZ w64 (100000 * l .total-cost + a .m * (100000000 * a .t1 .demand)) -ℤ toZ w64 (a .m * l .total-net)) (100000 * l .total-cost + a .m * (100000000 * a .t1 .demand) + 0) (0 + a .m * l .total-net)
-dual-is c = is-minus (cast _ (omega (arith, ended c))) (cast _ (omega (arith, ended c)))
-
-mul-t21 : tie.Need-mul-t21 Inv-loop μ-loop
-mul-t21 c = omega (arith, ended c)
-
-mul-t23 : tie.Need-mul-t23 Inv-loop μ-loop
-mul-t23 c = omega (arith, c .before .before .pre .bounded .demand)
-
-mul-t24 : tie.Need-mul-t24 Inv-loop μ-loop
-mul-t24 c = omega (arith, ended c)
-
-add-t25 : tie.Need-add-t25 Inv-loop μ-loop
-add-t25 c = omega (arith, ended c)
-
-cast-t26 : tie.Need-cast-t26 Inv-loop μ-loop
-cast-t26 c = omega (arith, ended c)
-
-mul-t27 : tie.Need-mul-t27 Inv-loop μ-loop
-mul-t27 c = omega (arith, ended c)
-
-cast-t28 : tie.Need-cast-t28 Inv-loop μ-loop
-cast-t28 c = omega (arith, ended c)
-
-sub-t29 : tie.Need-sub-t29 Inv-loop μ-loop
-sub-t29 c = fits (dual-is c) (omega (arith, ended c)) (omega (arith, ended c))
+same-length : tie.Need-same-length Inv-loop μ-loop
+same-length c = c .before .loop .inv .0
 
 returns : tie.Need-returns Inv-loop μ-loop
 returns c =
-    evaluating-ends (c .before .before .pre) (c .before .loop .inv) (omega (arith, c .before .loop .inv .within, c .loop-test .left)) (record { is = omega (arith, kept (dual-is c) (omega (arith, ended c)) (omega (arith, ended c))) })
+    let b = c .before .before .before in
+    allocating-ends (choice (b .args .m)) (b .pre .0 .held) (c .before .loop .inv .1) (omega (arith, c .before .loop .inv .1 .within, c .loop-test .left))
 
 pub evaluate-spec : {M : Type 1} → statement M
 evaluate-spec =
@@ -111,24 +141,23 @@ evaluate-spec =
     Inv-loop
     μ-loop
     loop-holds
-    mul-o
-    element-copy-out-o
+    mul-first
+    element-copy-out-first
+    cast-first
+    mul-last
+    add-last
+    element-copy-out-last
+    cast-last
+    curve-of-requires
     choose-requires
     mul-outputs
-    array-write-outputs
-    cost-requires
-    add-total-cost
-    net-requires
-    add-total-net
+    slice-write-outputs
+    cost-of-requires
+    add-cost
+    net-of-requires
+    add-net
     add-i
     loop-less
     loop-again
-    mul-t21
-    mul-t23
-    mul-t24
-    add-t25
-    cast-t26
-    mul-t27
-    cast-t28
-    sub-t29
+    same-length
     returns)

@@ -1,69 +1,127 @@
--- `pricing::totals::greatest_outputs` meets its contract. The loop keeps what `Raising` says.
+-- `pricing::totals::greatest_outputs` meets its contract: the loop keeps what `Allocating` says of the greatest outputs.
+use Prim.Native.Nat.{ℕ, _+_, _-_, _<_}
+use mathlib.Core.Path.{_≡_, refl}
 use native.Mathlib.Omega.{arith}
-use Prim.Native.Nat.{_+_, _<_, _-_}
-use Rattle.pricing.specs.Totals.{offerAt, Sized}
-use Rattle.pricing.proofs.Allocating.{added}
-use Rattle.pricing.proofs.Greatest.{Raising, raising-starts, more-sized, raising-more, raising-ends}
+use lib.ListN.{length, getD, length-set}
+use denote.Ref.{now}
+use Rattle.rules.specs.Lists.{greatest}
+use Rattle.rules.specs.Problem.{Offer, Problem}
+use Rattle.rules.proofs.Economics.Quantities.{cost-range}
+use Rattle.site.specs.Site.{last, high, noOffer, HoldsOffer, HoldsProblem}
+use Rattle.pricing.specs.Totals.{Held, Sized}
+use Rattle.pricing.proofs.Offers.{greatest-held, greatest-small}
+use Rattle.pricing.proofs.Allocating.{Allocating, allocating-starts, offered, sized-more, allocating-more, allocating-ends}
 use Rattle.pricing.proofs.totals.greatest_outputs.Statement.{statement}
 use Rattle.pricing.proofs.totals.greatest_outputs.Tie as tie
 
+abbrev top : Offer → ℕ
+top o = greatest (o .outputs)
+
 abbrev Inv-loop : tie.InvT-loop
-Inv-loop q count outputs₀ total-cost₀ total-net₀ i₀ outputs total-cost total-net i = Raising q (record { outputs = outputs; cost = total-cost; net = total-net }) i
+Inv-loop coefficients ends ranges n outputs₀ cost₀ net₀ i₀ outputs cost net i = (length outputs ≡ length outputs₀) × Allocating top coefficients ends ranges n outputs cost net i
 
 abbrev μ-loop : tie.MeasureT-loop
-μ-loop q count outputs₀ total-cost₀ total-net₀ i₀ outputs total-cost total-net i = q .count - i
+μ-loop coefficients ends ranges n outputs₀ cost₀ net₀ i₀ outputs cost net i = n - i
 
 loop-holds : tie.Need-loop-holds Inv-loop μ-loop
-loop-holds c = raising-starts (c .args .t1)
+loop-holds c = let b = c .before in (refl, allocating-starts top (b .pre .0) (b .pre .1))
 
--- unit i, which is below the count, and the numbers with its greatest output
-below : (c : tie.After-greatest-output Inv-loop μ-loop) → c .before .before .before .loop .i < c .before .before .before .before .args .t1 .count
-below c = c .before .before .loop-test .taken
+-- ---- unit i and its last region
 
-next : (c : tie.After-greatest-output Inv-loop μ-loop) → let l = c .before .before .before .loop in let q = c .before .before .before .before .args .t1 in Sized (l .i + 1) (added (record { outputs = l .outputs; cost = l .total-cost; net = l .total-net }) (l .i) (offerAt q (l .i)) (c .greatest-output .result))
-next c = more-sized (c .before .before .before .before .pre) (c .before .before .before .loop .inv) (below c) (c .greatest-output .ensures)
+module _ (c : tie.In-loop Inv-loop μ-loop) where
+  abbrev s : tie.Start Inv-loop μ-loop
+  s = c .before .before .before
 
-mul-o : tie.Need-mul-o Inv-loop μ-loop
-mul-o c = omega arith
+  abbrev i : ℕ
+  i = c .before .loop .i
 
-element-copy-out-o : tie.Need-element-copy-out-o Inv-loop μ-loop
-element-copy-out-o c = omega arith
+  abbrev g : Held (now (s .args .coefficients)) (now (s .args .ends)) (now (s .args .ranges)) (s .args .n)
+  g = s .pre .0
 
-greatest-output-requires : tie.Need-greatest-output-requires Inv-loop μ-loop
-greatest-output-requires c κs = c .before .before .before .pre .offers _ (c .before .loop-test .taken)
+  few : i < 32
+  few = omega (arith, g .holds .few, c .loop-test .taken)
+
+  unit : HoldsOffer (now (s .args .coefficients)) (now (s .args .ends)) (now (s .args .ranges)) i (getD (g .problem .offers) i noOffer)
+  unit = offered top g (c .before .loop .inv .1) (c .loop-test .taken)
+
+  abbrev r : ℕ
+  r = high (now (s .args .ends)) (last (now (s .args .ranges)) i)
+
+  picked : (q : Problem) → HoldsProblem (now (s .args .coefficients)) (now (s .args .ends)) (now (s .args .ranges)) (s .args .n) q → r ≡ top (getD (q .offers) i noOffer)
+  picked q h = greatest-held (h .offers i (c .loop-test .taken))
+
+mul-last : tie.Need-mul-last Inv-loop μ-loop
+mul-last c = omega (arith, few c)
+
+add-last : tie.Need-add-last Inv-loop μ-loop
+add-last c = omega (arith, few c)
+
+element-copy-out-last : tie.Need-element-copy-out-last Inv-loop μ-loop
+element-copy-out-last c = omega (arith, few c)
+
+cast-last : tie.Need-cast-last Inv-loop μ-loop
+cast-last c = let t = c .before in omega (arith, unit t .to, few t)
+
+mul-p : tie.Need-mul-p Inv-loop μ-loop
+mul-p c = let t = c .before in omega (arith, unit t .to, few t)
+
+add-p : tie.Need-add-p Inv-loop μ-loop
+add-p c = let t = c .before in omega (arith, unit t .to, few t)
+
+mul-p-2 : tie.Need-mul-p-2 Inv-loop μ-loop
+mul-p-2 c = let t = c .before in omega (arith, unit t .to, few t)
+
+element-copy-out-p : tie.Need-element-copy-out-p Inv-loop μ-loop
+element-copy-out-p c = let t = c .before in omega (arith, unit t .to, few t)
+
+-- ---- with its cost and net
+
+abbrev turn : tie.After-p Inv-loop μ-loop → tie.In-loop Inv-loop μ-loop
+turn c = c .before .before
 
 mul-outputs : tie.Need-mul-outputs Inv-loop μ-loop
-mul-outputs c = omega arith
+mul-outputs c = omega (arith, few (turn c))
 
-array-write-outputs : tie.Need-array-write-outputs Inv-loop μ-loop
-array-write-outputs c = omega arith
+slice-write-outputs : tie.Need-slice-write-outputs Inv-loop μ-loop
+slice-write-outputs c = omega (arith, turn c .before .loop .inv .1 .room, turn c .loop-test .taken)
 
-cost-requires : tie.Need-cost-requires Inv-loop μ-loop
-cost-requires c κs = (c .before .before .before .before .pre .offers _ (c .before .before .loop-test .taken) .coefficients, c .greatest-output .ensures .limit)
+cost-of-requires : tie.Need-cost-of-requires Inv-loop μ-loop
+cost-of-requires c κs = let t = turn c in record { few = few t; output = greatest-small (unit t); unit = _; holds = unit t .unit }
 
-add-total-cost : tie.Need-add-total-cost Inv-loop μ-loop
-add-total-cost c = omega (arith, next (c .before) .cost, c .cost .ensures, c .before .before .before .before .before .pre .count, below (c .before))
+net-of-requires : tie.Need-net-of-requires Inv-loop μ-loop
+net-of-requires c κs = let t = turn (c .before) in record { few = few t; output = greatest-small (unit t); unit = _; holds = unit t .unit }
 
-net-requires : tie.Need-net-requires Inv-loop μ-loop
-net-requires c κs = (c .before .before .before .before .before .pre .offers _ (c .before .before .before .loop-test .taken) .coefficients, c .before .greatest-output .ensures .limit)
+next : (c : tie.After-net-of Inv-loop μ-loop) → let l = turn (c .before .before) .before .loop in Sized (l .i + 1) (record { cost = l .cost + c .before .cost-of .result; net = l .net + c .net-of .result })
+next c =
+    let t = turn (c .before .before) in
+    sized-more top (g t) (t .before .loop .inv .1) (t .loop-test .taken) (greatest-small (unit t)) (picked t) (c .before .cost-of .ensures) (c .net-of .ensures)
 
-add-total-net : tie.Need-add-total-net Inv-loop μ-loop
-add-total-net c = omega (arith, next (c .before .before) .net, c .net .ensures, c .before .before .before .before .before .before .pre .count, below (c .before .before))
+add-cost : tie.Need-add-cost Inv-loop μ-loop
+add-cost c = let t = turn (c .before) in omega (arith, t .before .loop .inv .1 .sized .cost, few t, c .cost-of .ensures _ (unit t .unit), cost-range (unit t .unit .sound) (greatest-small (unit t)))
+
+add-net : tie.Need-add-net Inv-loop μ-loop
+add-net c = omega (arith, next c .net, few (turn (c .before .before)))
 
 add-i : tie.Need-add-i Inv-loop μ-loop
-add-i c = omega arith
+add-i c = omega (arith, few (turn (c .before .before)))
 
 loop-less : tie.Need-loop-less Inv-loop μ-loop
 loop-less c = omega arith
 
 loop-again : tie.Need-loop-again Inv-loop μ-loop
 loop-again c =
-    let h = c .before .before in
-    rw (c .before .cost .ensures, c .net .ensures)
-    (raising-more (h .before .before .before .before .pre) (h .before .before .before .loop .inv) (below h) (h .greatest-output .ensures))
+    let t = turn (c .before .before) in (
+      simp length-set (t .before .loop .inv .0),
+      allocating-more top (g t) (t .before .loop .inv .1) (t .loop-test .taken) (greatest-small (unit t)) (picked t) (c .before .cost-of .ensures) (c .net-of .ensures),
+    )
+
+same-length : tie.Need-same-length Inv-loop μ-loop
+same-length c = c .before .loop .inv .0
 
 returns : tie.Need-returns Inv-loop μ-loop
-returns c = raising-ends (c .before .before .pre) (c .before .loop .inv) (omega (arith, c .before .loop .inv .within, c .loop-test .left))
+returns c =
+    let b = c .before .before .before in
+    allocating-ends top (b .pre .0) (c .before .loop .inv .1) (omega (arith, c .before .loop .inv .1 .within, c .loop-test .left))
 
 pub greatest-outputs-spec : {M : Type 1} → statement M
 greatest-outputs-spec =
@@ -72,16 +130,22 @@ greatest-outputs-spec =
     Inv-loop
     μ-loop
     loop-holds
-    mul-o
-    element-copy-out-o
-    greatest-output-requires
+    mul-last
+    add-last
+    element-copy-out-last
+    cast-last
+    mul-p
+    add-p
+    mul-p-2
+    element-copy-out-p
     mul-outputs
-    array-write-outputs
-    cost-requires
-    add-total-cost
-    net-requires
-    add-total-net
+    slice-write-outputs
+    cost-of-requires
+    add-cost
+    net-of-requires
+    add-net
     add-i
     loop-less
     loop-again
+    same-length
     returns)

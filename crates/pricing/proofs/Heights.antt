@@ -1,0 +1,189 @@
+-- A unit's coefficients in the arrays: the range of all that is computed of them, for `omega`, which bounds no product itself; and the curve that they make, which is the unit's priced cost and falls and rises by its steps.
+use mathlib.Core.Path.{_≡_, refl, ap, subst}
+use mathlib.Core.List.{List}
+use Prim.Native.Nat.{ℕ, _+_, _*_, _-_, _/_, _≤_, _<_}
+use native.Mathlib.Nat.{mul-le-mul, mul-le-mul-left, mul-le-mul-right, mul-div-le, lt-mul-div-succ, le-div-iff-mul-le, div-lt-iff-lt-mul}
+use native.Mathlib.Decide.{decLt}
+use native.Mathlib.Omega.{arith}
+use lib.IntN.{ℤ, _-ℤ_}
+use lib.ListN.{getD}
+use lib.Signed.{_≤ℤ_, _<ℤ_, ≤ℤ-refl}
+use mir.Syntax.{w64}
+use mir.Val.{SFits, toZ, ofZ}
+use Rattle.rules.specs.Unit.{Unit, cost, net}
+use Rattle.rules.specs.Choice.{pricedCost}
+use Rattle.rules.proofs.Integers.{Is, up, dn, is-sub, is-minus, cast, fits, kept, same, at-most, under, up-is, dn-is}
+use Rattle.rules.proofs.Sound.{Sound}
+use Rattle.rules.proofs.Economics.Quantities.{cost-is, net-whole, priced-is}
+use Rattle.site.specs.Site.{Coefficients}
+use Rattle.pricing.specs.declared.Curve as code
+use Rattle.pricing.specs.Curve.{height, IsCurve, InRange, AtOutput, AtMultiplier}
+use Rattle.pricing.specs.Choosing.{Valley}
+
+-- ---- numbers in range
+
+-- the coefficients of unit i
+pub record Limits (coefficients : List ℕ) (i : ℕ) : Type 0 where
+  pub c0 : getD coefficients (4 * i) 0 ≤ 1000000000
+  pub c1 : getD coefficients (4 * i + 1) 0 ≤ 10000000
+  pub c2 : getD coefficients (4 * i + 2) 0 ≤ 1000
+  pub b : getD coefficients (4 * i + 3) 0 ≤ 5000
+
+limits : {coefficients : List ℕ} {i : ℕ} {u : Unit} → Coefficients coefficients i u → Limits coefficients i
+limits h =
+    let s = h .sound in
+    record { c0 = omega (arith, h .c0, s .c0); c1 = omega (arith, h .c1, s .c1); c2 = omega (arith, h .c2, s .c2); b = omega (arith, h .b, s .b) }
+
+-- at an output
+pub record AtOutputRange (coefficients : List ℕ) (i p : ℕ) : Type 0 where
+  pub limits : Limits coefficients i
+  pub few : i < 32
+  pub square : getD coefficients (4 * i + 2) 0 * p ≤ 10000000
+  pub slope : (getD coefficients (4 * i + 1) 0 + getD coefficients (4 * i + 2) 0 * p) * p ≤ 200000000000
+  pub loss : getD coefficients (4 * i + 3) 0 * p ≤ 50000000
+  pub net : (100000000 - getD coefficients (4 * i + 3) 0 * p) * p ≤ 1000000000000
+
+pub at-output : {coefficients : List ℕ} {i p : ℕ} → AtOutput coefficients i p → AtOutputRange coefficients i p
+at-output {coefficients} {i} {p} h =
+    let l = limits (h .holds) in
+    let square : getD coefficients (4 * i + 2) 0 * p ≤ 1000 * 10000 = mul-le-mul (l .c2) (h .output) in
+    record {
+      limits = l;
+      few = h .few;
+      square = square;
+      slope = mul-le-mul {n₂ = 20000000} {m₂ = 10000} (omega (arith, l .c1, square)) (h .output);
+      loss = mul-le-mul (l .b) (h .output);
+      net = mul-le-mul {n₂ = 100000000} {m₂ = 10000} (omega arith) (h .output);
+    }
+
+-- at a multiplier
+pub record AtMultiplierRange (coefficients : List ℕ) (i m : ℕ) : Type 0 where
+  pub limits : Limits coefficients i
+  pub few : i < 32
+  pub multiplier : m ≤ 65536
+  pub loss : m * getD coefficients (4 * i + 3) 0 ≤ 327680000
+
+pub at-multiplier : {coefficients : List ℕ} {i m : ℕ} → AtMultiplier coefficients i m → AtMultiplierRange coefficients i m
+at-multiplier h = let l = limits (h .holds) in record { limits = l; few = h .few; multiplier = h .multiplier; loss = mul-le-mul (h .multiplier) (l .b) }
+
+-- ---- cost and net, as they are computed
+
+module _ {coefficients : List ℕ} {i : ℕ} {u : Unit} (h : Coefficients coefficients i u) (p : ℕ) where
+  pub cost-computed : getD coefficients (4 * i) 0 + (getD coefficients (4 * i + 1) 0 + getD coefficients (4 * i + 2) 0 * p) * p ≡ cost u p
+  cost-computed = rw (h .c0, h .c1, h .c2) (omega (arith, cost-is u p))
+
+  pub net-computed : p ≤ 10000 → (100000000 - getD coefficients (4 * i + 3) 0 * p) * p ≡ net u p
+  net-computed k =
+      let loss : u .b * p ≤ 50000000 = mul-le-mul (h .sound .b) k in
+      let whole : (100000000 - u .b * p) + u .b * p ≡ 100000000 = omega arith in
+      rw (h .b) (omega (arith, net-whole (h .sound) k, ap (λ (n : ℕ). n * p) whole))
+
+-- ---- the curve, as it is computed
+
+module _ {coefficients : List ℕ} {i m : ℕ} (h : AtMultiplier coefficients i m) where
+  r : AtMultiplierRange coefficients i m
+  r = at-multiplier h
+
+  abbrev line : ℤ
+  line = toZ w64 (100000 * getD coefficients (4 * i + 1) 0) -ℤ toZ w64 (100000000 * m)
+
+  line-is : Is line (100000 * getD coefficients (4 * i + 1) 0 + 0) (0 + 100000000 * m)
+  line-is = is-minus (cast _ (omega (arith, r .limits .c1))) (cast _ (omega (arith, r .multiplier)))
+
+  pub line-fits : SFits w64 line
+  line-fits = fits line-is (omega (arith, r .limits .c1)) (omega (arith, r .multiplier))
+
+  line-read : Is (toZ w64 (ofZ w64 line)) (100000 * getD coefficients (4 * i + 1) 0) (100000000 * m)
+  line-read = record { is = omega (arith, kept line-is (omega (arith, r .limits .c1)) (omega (arith, r .multiplier))) }
+
+  abbrev computed : code.Curve
+  computed =
+      record {
+        square = 100000 * getD coefficients (4 * i + 2) 0 + m * getD coefficients (4 * i + 3) 0;
+        linear = toZ w64 (ofZ w64 line);
+        constant = 100000 * getD coefficients (4 * i) 0;
+      }
+
+  pub curve-computed : InRange computed × ((u : Unit) → Coefficients coefficients i u → IsCurve m u computed)
+  curve-computed = (
+    record {
+      square = omega (arith, r .loss, r .limits .c2);
+      above = omega (arith, up-is line-read, r .limits .c1);
+      below = omega (arith, dn-is line-read, r .multiplier);
+      constant = omega (arith, r .limits .c0);
+    },
+    λ u k. record { square = rw (k .c2, k .b); linear = rw (← k .c1) line-read; constant = rw (k .c0) },
+  )
+
+-- ---- the curve
+
+pub height-is : (c : code.Curve) (p : ℕ) → Is (height c p) (c .square * (p * p) + up (c .linear) * p + c .constant) (dn (c .linear) * p)
+unfolding height
+height-is c p = is-sub (c .square * (p * p) + up (c .linear) * p + c .constant) (dn (c .linear) * p)
+
+-- it is the unit's priced cost
+pub priced-curve : {m : ℕ} {u : Unit} {c : code.Curve} → Sound u → IsCurve m u c → (p : ℕ) → p ≤ 10000 → height c p ≡ pricedCost m u p
+priced-curve {m} {u} {c} s k p h =
+    let linear : up (c .linear) * p + 100000000 * m * p ≡ 100000 * u .c1 * p + dn (c .linear) * p = omega (arith, ap (λ (n : ℕ). n * p) (k .linear .is)) in
+    let square : c .square * (p * p) ≡ (100000 * u .c2 + m * u .b) * (p * p) = ap (λ (n : ℕ). n * (p * p)) (k .square) in
+    same (height-is c p) (priced-is m u p) (omega (arith, cost-is u p, ap (λ (n : ℕ). m * n) (net-whole s h), linear, square, k .constant))
+
+-- ---- its steps: it does not rise up to v, if the step into v does not, and rises from v, if the step out of v does
+
+module _ (c : code.Curve) where
+  abbrev a : ℕ
+  a = c .square
+
+  abbrev s : ℕ
+  s = up (c .linear)
+
+  abbrev t : ℕ
+  t = dn (c .linear)
+
+  squared : (j : ℕ) → 0 < j → a * j ≤ a * (j * j)
+  squared j h = omega (arith, mul-le-mul-left (a * j) h)
+
+  rise : (r j : ℕ) → 0 < j → t < 2 * (a * r) + a + s → t * j + j ≤ a * (2 * (r * j) + j * j) + s * j
+  rise r j h k = omega (arith, squared j h, mul-le-mul-right j k)
+
+  fall : (p j : ℕ) → 0 < j → 2 * (a * (p + j)) + s ≤ a + t → a * (2 * (p * j) + j * j) + s * j ≤ t * j
+  fall p j h k = omega (arith, squared j h, mul-le-mul-right j k)
+
+  -- the value at p, with n put for p
+  value : (p n : ℕ) → p ≡ n → Is (height c p) (a * (n * n) + s * n + c .constant) (t * n)
+  value p n e = subst (λ (m : ℕ). Is (height c p) (a * (m * m) + s * m + c .constant) (t * m)) e (height-is c p)
+
+  rising : (p q : ℕ) → p < q → t < 2 * (a * p) + a + s → height c p <ℤ height c q
+  rising p q l k =
+      let e : q ≡ p + (q - p) = omega arith in
+      under (value p p refl) (value q (p + (q - p)) e) (omega (arith, rise p (q - p) (omega arith) k))
+
+  falling : (p q : ℕ) → p ≤ q → (p < q → 2 * (a * q) + s ≤ a + t) → height c q ≤ℤ height c p
+  falling p q l k = by (decLt p q)
+    where
+      by : Dec (p < q) → height c q ≤ℤ height c p
+      by (yes h) =
+          let e : q ≡ p + (q - p) = omega arith in
+          at-most (value q (p + (q - p)) e) (value p p refl) (omega (arith, fall p (q - p) (omega arith) (rw (← e) (k h))))
+      by (no h) = let e : q ≡ p = omega arith in subst (λ (n : ℕ). height c q ≤ℤ height c n) e (≤ℤ-refl (height c q))
+
+  pub valley : {from to v : ℕ} → (from < v → 2 * (a * v) + s ≤ a + t) → (v < to → t < 2 * (a * v) + a + s) → Valley (height c) from to v
+  valley {from} {to} {v} into out =
+      record {
+        falls = λ p q f l e h. falling p q l (λ k. omega (arith, into (omega arith), mul-le-mul-left a h));
+        rises = λ p q f l e h. rising p q l (omega (arith, out (omega arith), mul-le-mul-left a h));
+      }
+
+  -- the vertex, as a quotient
+  module _ (positive : 0 < a) (h : s ≤ a + t) where
+    abbrev vertex : ℕ
+    vertex = (a + t - s) / (2 * a)
+
+    pub vertex-valley : {from to : ℕ} → Valley (height c) from to ((a + t - s) / (2 * a))
+    vertex-valley = valley {v = vertex} (λ _. omega (arith, mul-div-le (a + t - s) (2 * a))) (λ _. omega (arith, lt-mul-div-succ (a + t - s) {b = 2 * a} (omega arith)))
+
+    pub vertex-from : (p : ℕ) → 2 * (a * p) + s ≤ a + t → p ≤ (a + t - s) / (2 * a)
+    vertex-from p k = le-div-iff-mul-le {k = 2 * a} {x = p} {y = a + t - s} (omega arith) .1 (omega arith)
+
+    pub vertex-to : (p : ℕ) → a + t < 2 * (a * p) + s → (a + t - s) / (2 * a) ≤ p
+    vertex-to p k = omega (arith, div-lt-iff-lt-mul {k = 2 * a} {x = a + t - s} {y = p} (omega arith) .1 (omega arith))

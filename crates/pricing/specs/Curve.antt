@@ -1,0 +1,40 @@
+-- A unit's priced cost at a multiplier as a curve, square × p² + linear × p + constant. This file alone says which coefficients it is made of.
+use Prim.Native.Nat.{ℕ, _+_, _*_, _≤_, _<_}
+use mathlib.Core.Path.{_≡_}
+use mathlib.Core.List.{List}
+use lib.IntN.{ℤ, subℕ}
+use Rattle.rules.specs.Unit.{Unit}
+use Rattle.rules.proofs.Integers.{up, dn, Is}
+use Rattle.site.specs.Site.{Coefficients}
+use Rattle.pricing.specs.declared.Curve.{Curve}
+
+-- the curve's value at p
+unfoldable pub height : Curve → ℕ → ℤ
+height c p = subℕ (c .square * (p * p) + up (c .linear) * p + c .constant) (dn (c .linear) * p)
+
+-- the curve of unit u at m: 100,000 × cost − m × net, by powers of p
+pub record IsCurve (m : ℕ) (u : Unit) (c : Curve) : Type 0 where
+  pub square : c .square ≡ 100000 * u .c2 + m * u .b
+  pub linear : Is (c .linear) (100000 * u .c1) (100000000 * m)
+  pub constant : c .constant ≡ 100000 * u .c0
+
+-- its numbers in range
+pub record InRange (c : Curve) : Type 0 where
+  pub square : c .square ≤ 1000000000
+  pub above : up (c .linear) ≤ 10000000000000
+  pub below : dn (c .linear) ≤ 10000000000000
+  pub constant : c .constant ≤ 1000000000000000
+
+-- ---- unit i of the arrays, which is some unit's, at an output and at a multiplier
+
+pub record AtOutput (coefficients : List ℕ) (i p : ℕ) : Type 0 where
+  pub few : i < 32
+  pub output : p ≤ 10000
+  pub unit : Unit
+  pub holds : Coefficients coefficients i unit
+
+pub record AtMultiplier (coefficients : List ℕ) (i m : ℕ) : Type 0 where
+  pub few : i < 32
+  pub multiplier : m ≤ 65536
+  pub unit : Unit
+  pub holds : Coefficients coefficients i unit

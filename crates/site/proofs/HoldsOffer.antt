@@ -1,0 +1,140 @@
+-- What writing a unit does to what the arrays hold: another unit stays, since it stands in other places; and the unit itself is held, if it has a permitted output.
+use mathlib.Core.Path.{_≡_, sym, _∙_}
+use mathlib.Core.Bool.{true, false, true≢false}
+use mathlib.Core.List.{List, [], _∷_}
+use mathlib.Core.Logic.{_⊎_, inl, inr, _↔_}
+use Prim.Native.Nat.{ℕ, _+_, _*_, _-_, _≤_, _<_}
+use native.Mathlib.Decide.{decLt}
+use native.Mathlib.Omega.{arith}
+use lib.ListN.{getD}
+use Rattle.rules.specs.Unit.{Unit}
+use Rattle.rules.specs.Problem.{Offer, offer, problemOf}
+use Rattle.rules.proofs.Sound.{Sound}
+use Rattle.rules.proofs.Economics.Chosen.{Among, none-among}
+use Rattle.rules.proofs.Economics.Allocations.{Proper}
+use Rattle.rules.proofs.Economics.Outputs.{offered-permitted, permitted-offered}
+use Rattle.rules.proofs.Economics.Solvable.{case-proper}
+use Rattle.site.specs.Site.{low, high, first, last, Within, Regions, HoldsOffer}
+use Rattle.site.specs.Writing.{KeptOutside, RegionsWritten, CoefficientsWritten, RangeWritten, UnitWritten}
+use Rattle.site.proofs.KeptOutside.{kept-all}
+
+-- ---- the same in other arrays
+
+-- t is s from place `from` to before place `to`
+pub record Same (from to : ℕ) (s t : List ℕ) : Type 0 where
+  pub equal : (k : ℕ) → from ≤ k → k < to → getD t k 0 ≡ getD s k 0
+
+same : {from to from′ to′ : ℕ} {s t : List ℕ} → KeptOutside from to s t → (to′ ≤ from) ⊎ (to ≤ from′) → Same from′ to′ s t
+same h (inl e) = record { equal = λ k a b. h .below k (omega arith) }
+same h (inr e) = record { equal = λ k a b. h .above k (omega arith) }
+
+-- regions first to last depend on their own places only
+module _ {ends ends′ : List ℕ} {f l : ℕ} (b : Same (2 * f) (2 * l + 2) ends ends′) where
+  low-same : (k : ℕ) → f ≤ k → k ≤ l → low ends′ k ≡ low ends k
+  low-same k s t = b .equal (2 * k) (omega arith) (omega arith)
+
+  high-same : (k : ℕ) → f ≤ k → k ≤ l → high ends′ k ≡ high ends k
+  high-same k s t = b .equal (2 * k + 1) (omega arith) (omega arith)
+
+  regions-same : Regions ends f l → Regions ends′ f l
+  regions-same h =
+      record {
+        some = h .some;
+        order = λ k s t. rw (low-same k s t, high-same k s t) (h .order k s t);
+        limit = λ k s t. rw (high-same k s t) (h .limit k s t);
+        apart = λ j k s m t. rw (high-same j s (omega arith), low-same k (omega arith) t) (h .apart j k s m t);
+        stands = λ k s t. rw (low-same k s t, high-same k s t) (h .stands k s t);
+      }
+
+  within-same : (p : ℕ) → Within ends f l p ↔ Within ends′ f l p
+  within-same p = (
+    λ w. record { region = w .region; from = w .from; to = w .to; inside = rw (low-same (w .region) (w .from) (w .to), high-same (w .region) (w .from) (w .to)) (w .inside) },
+    λ w. record { region = w .region; from = w .from; to = w .to; inside = rw (low-same (w .region) (w .from) (w .to), high-same (w .region) (w .from) (w .to)) at (w .inside) },
+  )
+
+-- a unit depends on its own places only
+module _ {coefficients ends ranges coefficients′ ends′ ranges′ : List ℕ} (i : ℕ) (a : Same (4 * i) (4 * i + 4) coefficients coefficients′) (b : Same (2 * (6 * i)) (2 * (6 * i) + 12) ends ends′) (c : Same (2 * i) (2 * i + 2) ranges ranges′) where
+  pub holds-same : (o : Offer) → HoldsOffer coefficients ends ranges i o → HoldsOffer coefficients′ ends′ ranges′ i o
+  holds-same o h =
+      let first-same : first ranges′ i ≡ first ranges i = c .equal (2 * i) (omega arith) (omega arith) in
+      let last-same : last ranges′ i ≡ last ranges i = c .equal (2 * i + 1) (omega arith) (omega arith) in
+      let part : Same (2 * first ranges i) (2 * last ranges i + 2) ends ends′ = record { equal = λ k s t. b .equal k (omega (arith, h .from)) (omega (arith, h .to)) } in
+      record {
+        proper = h .proper;
+        unit =
+            record {
+              sound = h .unit .sound;
+              c0 = a .equal (4 * i) (omega arith) (omega arith) ∙ h .unit .c0;
+              c1 = a .equal (4 * i + 1) (omega arith) (omega arith) ∙ h .unit .c1;
+              c2 = a .equal (4 * i + 2) (omega arith) (omega arith) ∙ h .unit .c2;
+              b = a .equal (4 * i + 3) (omega arith) (omega arith) ∙ h .unit .b;
+            };
+        from = rw first-same (h .from);
+        to = rw last-same (h .to);
+        regions = rw (first-same, last-same) (regions-same part (h .regions));
+        outputs = λ p. (
+          λ i. rw (first-same, last-same) (within-same part p .0 (h .outputs p .0 i)),
+          λ w. h .outputs p .1 (within-same part p .1 (rw (first-same, last-same) at w)),
+        );
+      }
+
+-- ---- a unit is written
+
+proper : {u : Unit} → Sound u → Proper (offer u)
+unfolding problemOf
+proper {u} s = case-proper (record { demand = 0; units = u ∷ [] }) (s, tt) .0
+
+module _ {u : Unit} {i next : ℕ} {coefficients ends coefficients′ ends′ : List ℕ} (cs : CoefficientsWritten u i coefficients coefficients′) (rs : RegionsWritten u (6 * i) ends ends′ next) where
+  others : {ranges ranges′ : List ℕ} → KeptOutside (2 * i) (2 * i + 2) ranges ranges′ → (j : ℕ) → (j ≡ i → ⊥) → (o : Offer) → HoldsOffer coefficients ends ranges j o → HoldsOffer coefficients′ ends′ ranges′ j o
+  others {ranges} {ranges′} kept j n = by (decLt j i)
+    where
+      by : Dec (j < i) → (o : Offer) → HoldsOffer coefficients ends ranges j o → HoldsOffer coefficients′ ends′ ranges′ j o
+      by (yes l) = holds-same j (same (cs .kept) (inl (omega arith))) (same (rs .kept) (inl (omega arith))) (same kept (inl (omega arith)))
+      by (no l) = holds-same j (same (cs .kept) (inr (omega arith))) (same (rs .kept) (inr (omega arith))) (same kept (inr (omega arith)))
+
+  -- no region: no output
+  pub unit-none : next ≡ 6 * i → (ranges : List ℕ) → UnitWritten u i coefficients ends ranges coefficients′ ends′ ranges false
+  unit-none e ranges =
+      record {
+        holds = λ t. absurd (true≢false (sym t));
+        none = λ _. none-among (offer u .outputs) (λ p m. let w = rs .outputs p .0 (offered-permitted u p m) in omega (arith, w .from, w .to));
+        others = others kept-all;
+      }
+
+  module _ (n : next ≡ 6 * i → ⊥) where
+    some : 6 * i < next
+    some = omega (arith, rs .from)
+
+    regions : Regions ends′ (6 * i) (next - 1)
+    regions =
+        let a = rs .ascending in
+        record {
+          some = omega (arith, some);
+          order = λ k s t. a .order k s (omega (arith, some));
+          limit = λ k s t. a .limit k s (omega (arith, some));
+          apart = λ j k s m t. a .apart j k s m (omega (arith, some));
+          stands = λ k s t. a .stands k s (omega (arith, some));
+        }
+
+    within : (p : ℕ) → Among p (offer u .outputs) ↔ Within ends′ (6 * i) (next - 1) p
+    within p = (
+      λ m. let w = rs .outputs p .0 (offered-permitted u p m) in record { region = w .region; from = w .from; to = omega (arith, w .to); inside = w .inside },
+      λ w. permitted-offered u p (rs .outputs p .1 (record { region = w .region; from = w .from; to = omega (arith, w .to, some); inside = w .inside })),
+    )
+
+    pub unit-some : {ranges ranges′ : List ℕ} → RangeWritten i (6 * i) (next - 1) ranges ranges′ → UnitWritten u i coefficients ends ranges coefficients′ ends′ ranges′ true
+    unfolding offer
+    unit-some r =
+        record {
+          holds = λ _.
+              record {
+                proper = proper (cs .holds .sound);
+                unit = cs .holds;
+                from = omega (arith, r .first);
+                to = omega (arith, r .last, rs .to, some);
+                regions = rw (r .first, r .last) regions;
+                outputs = λ p. (λ m. rw (r .first, r .last) (within p .0 m), λ w. within p .1 (rw (r .first, r .last) at w));
+              };
+          none = λ t. absurd (true≢false t);
+          others = others (r .kept);
+        }

@@ -1,0 +1,112 @@
+-- A decoded site is three arrays of plain numbers. Here stands which problem they hold: for each unit its coefficients and, as regions that ascend, the outputs that it offers.
+use Prim.Native.Nat.{ℕ, _+_, _*_, _≤_, _<_}
+use mathlib.Core.Path.{_≡_}
+use mathlib.Core.List.{List, []}
+use mathlib.Core.Logic.{_↔_}
+use lib.ListN.{length, getD}
+use Rattle.rules.specs.Unit.{Unit}
+use Rattle.rules.specs.Refusal.{fileVerdict}
+use Rattle.rules.specs.Problem.{Offer, Problem, target, problemIn}
+use Rattle.rules.specs.Calls.{caseVerdict}
+use Rattle.rules.specs.declared.Verdict.{Verdict}
+use Rattle.rules.proofs.Sound.{Sound}
+use Rattle.rules.proofs.Economics.Chosen.{Among}
+use Rattle.rules.proofs.Economics.Allocations.{Proper}
+use Rattle.site.specs.declared.Decoded.{Decoded}
+
+-- ---- the arrays by place
+
+-- the ends of region k
+abbrev pub low : List ℕ → ℕ → ℕ
+low ends k = getD ends (2 * k) 0
+
+abbrev pub high : List ℕ → ℕ → ℕ
+high ends k = getD ends (2 * k + 1) 0
+
+-- the first and the last region of unit i
+abbrev pub first : List ℕ → ℕ → ℕ
+first ranges i = getD ranges (2 * i) 0
+
+abbrev pub last : List ℕ → ℕ → ℕ
+last ranges i = getD ranges (2 * i + 1) 0
+
+-- the coefficients of unit i are those of u, which is sound
+pub record Coefficients (coefficients : List ℕ) (i : ℕ) (u : Unit) : Type 0 where
+  pub sound : Sound u
+  pub c0 : getD coefficients (4 * i) 0 ≡ u .c0
+  pub c1 : getD coefficients (4 * i + 1) 0 ≡ u .c1
+  pub c2 : getD coefficients (4 * i + 2) 0 ≡ u .c2
+  pub b : getD coefficients (4 * i + 3) 0 ≡ u .b
+
+-- ---- regions
+
+-- from low to high
+pub record Between (low high p : ℕ) : Type 0 where
+  pub from : low ≤ p
+  pub to : p ≤ high
+
+-- p lies in one of the regions first to last
+pub record Within (ends : List ℕ) (first last p : ℕ) : Type 0 where
+  pub region : ℕ
+  pub from : first ≤ region
+  pub to : region ≤ last
+  pub inside : Between (low ends region) (high ends region) p
+
+-- the regions first to last ascend and lie apart; each has running outputs only, or output 0 alone
+pub record Regions (ends : List ℕ) (first last : ℕ) : Type 0 where
+  pub some : first ≤ last
+  pub order : (k : ℕ) → first ≤ k → k ≤ last → low ends k ≤ high ends k
+  pub limit : (k : ℕ) → first ≤ k → k ≤ last → high ends k ≤ 10000
+  pub apart : (j k : ℕ) → first ≤ j → j < k → k ≤ last → high ends j < low ends k
+  pub stands : (k : ℕ) → first ≤ k → k ≤ last → low ends k ≡ 0 → high ends k ≡ 0
+
+-- ---- what is held
+
+-- unit i of the arrays is the offer o
+pub record HoldsOffer (coefficients ends ranges : List ℕ) (i : ℕ) (o : Offer) : Type 0 where
+  pub proper : Proper o
+  pub unit : Coefficients coefficients i (o .unit)
+  pub from : 6 * i ≤ first ranges i
+  pub to : last ranges i < 6 * i + 6
+  pub regions : Regions ends (first ranges i) (last ranges i)
+  pub outputs : (p : ℕ) → Among p (o .outputs) ↔ Within ends (first ranges i) (last ranges i) p
+
+-- what stands past the end of a list of offers
+abbrev pub noOffer : Offer
+noOffer =
+    record {
+      unit =
+          record {
+            c0 = 0;
+            c1 = 0;
+            c2 = 0;
+            b = 0;
+            least = 0;
+            greatest = 0;
+            previous = 0;
+            up = 0;
+            down = 0;
+            mark = 0;
+            zoneCount = 0;
+            edges = [];
+          };
+      outputs = [];
+    }
+
+-- the first n units of the arrays are the problem q
+pub record HoldsProblem (coefficients ends ranges : List ℕ) (n : ℕ) (q : Problem) : Type 0 where
+  pub count : length (q .offers) ≡ n
+  pub few : n ≤ 32
+  pub demand : q .demand ≤ 320000
+  pub offers : (i : ℕ) → i < n → HoldsOffer coefficients ends ranges i (getD (q .offers) i noOffer)
+
+-- ---- what decoding a file gives: its problem in the arrays, where every unit has a permitted output; or the refusal of the case
+
+pub record Site (file coefficients ends ranges : List ℕ) (n t : ℕ) : Type 0 where
+  pub accepted : fileVerdict file ≡ Verdict.Accepted
+  pub demanded : t ≡ target (problemIn file)
+  pub holds : HoldsProblem coefficients ends ranges n (problemIn file)
+
+abbrev pub Decodes : List ℕ → List ℕ → List ℕ → List ℕ → Decoded → Type 0
+Decodes file coefficients ends ranges (Decoded.Site n t) = Site file coefficients ends ranges n t
+Decodes file coefficients ends ranges (Decoded.Refused r) = caseVerdict file ≡ Verdict.Refused r
