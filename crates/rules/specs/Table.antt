@@ -1,6 +1,6 @@
 -- Document 01, "Dispatches to be proved": its cases and both pricings as one table, from the file's bytes to the reply's, and one theorem.
 -- The other lists tell apart rules which the paper's table does not: `further` (dispatches, pricings, packings, unpackings), `limits` (the last accepted value of each field and the first refused one), `refusals` (each number from each call that gives it), `orders` (an input that breaks two rules gets the number of the earlier check), `panelForms` (the calls as C sees them), `searches` (steps 2 to 4 by themselves). Above each of their rows stands the wrong rule that it shows. Where a reader and a writer could be wrong alike, the bytes and the rows are spelled out.
-use Prim.Native.Nat.{ℕ, _+_, _*_}
+use Prim.Native.Nat.{ℕ, zero, suc, _+_, _*_}
 use mathlib.Core.Bool.{Bool, true, false}
 use mathlib.Core.List.{List, [], _∷_, _++_, map}
 use mathlib.Core.Path.{_≡_, refl}
@@ -37,7 +37,7 @@ pub data Call : Type 0 where
   panelPrice : List ℕ → ℕ → List ℤ → Call
   panelPack : ℕ → List ℕ → List ℕ → Call
   panelUnpack : List ℕ → List ℕ → List ℤ → Call
-  -- whether outputs are an allocation of units
+  -- parts of the rules by themselves: whether outputs are an allocation of units
   allocate : List Unit → List ℕ → Call
   -- steps 2 to 4 for a target, where the choices of m are m itself with a net of 2 × m, and the first best is 70,000
   searchFor : ℕ → Call
@@ -167,6 +167,11 @@ atLimits =
 abbrev pub put : ℕ → List ℕ → List ℕ → List ℕ
 put place numbers list = take place list ++ numbers ++ drop (place + length numbers) list
 
+-- a list so many times
+abbrev pub copies : ℕ → List ℕ → List ℕ
+copies zero list = []
+copies (suc n) list = list ++ copies n list
+
 -- U5 damaged, by the number that refuses it: a head of 7 bytes (2), edition 2 (3), no unit (4), d 320,001 (5), a byte too many (6), no zone in a body of 30 bytes (7), c1 10,000,001 (8), a lower edge equal to least (9), mark 2 (10)
 unfoldable pub shortHead : List ℕ
 shortHead = take 7 u5
@@ -195,9 +200,9 @@ edgeAtLeast = put 38 (0x00 ∷ 0x02 ∷ []) u5
 unfoldable pub otherMark : List ℕ
 otherMark = put 34 (0x00 ∷ 0x02 ∷ []) u5
 
--- the largest losses near 10,000: 65,536's choices net less than the greatest output does
-unfoldable pub lossiest : Offer
-lossiest = record { unit = unitOfRow (0 ∷ 10000000 ∷ 1000 ∷ 5000 ∷ 9998 ∷ 10000 ∷ 0 ∷ 0 ∷ 0 ∷ 1 ∷ 0 ∷ replicate 8 0); outputs = 9998 ∷ 9999 ∷ 10000 ∷ [] }
+-- the largest b, near output 10,000: there 65,536's choices net less than the greatest output
+unfoldable pub largestLosses : Offer
+largestLosses = record { unit = unitOfRow (0 ∷ 10000000 ∷ 1000 ∷ 5000 ∷ 9998 ∷ 10000 ∷ 0 ∷ 0 ∷ 0 ∷ 1 ∷ 0 ∷ replicate 8 0); outputs = 9998 ∷ 9999 ∷ 10000 ∷ [] }
 
 -- lent rows, 608 numbers, and a lent list of three answers
 abbrev pub rowsBuffer : List ℕ
@@ -280,6 +285,8 @@ further =
     record { call = dispatch (fileOf 0 (priced-at 0 0 ∷ [])); result = reply (10 ∷ []) 0 0 1 1000000000 }
     -- a floor rounded down
     ∷ record { call = dispatch (fileOf 5 (lossy ∷ [])); result = reply (7 ∷ []) 119000 41999 18 199999951 }
+    -- a floor rounded to the nearest, or up from 2 above a whole quotient: the dual value of 21 is 1 above one
+    ∷ record { call = dispatch (fileOf 5 (unit 9665 1000 1069 0 0 0 0 4 7 ∷ [])); result = reply (7 ∷ []) 116655 41988 18 199947619 }
     -- only the last floor
     ∷ record { call = dispatch (fileOf 1 (U ∷ [])); result = reply (2 ∷ []) 24000 12000 18 100000000 }
     -- no stop at equal net in step 4
@@ -336,12 +343,14 @@ further =
 
 unfoldable pub limits : List Row
 limits =
-    -- a limit below the paper's (above it, for least)
+    -- a limit lower than the paper's; for least, a higher one
     record { call = check atLimits; result = checks 0 }
     -- d up to 320,001
     ∷ record { call = check (put 4 (0x00 ∷ 0x04 ∷ 0xE2 ∷ 0x01 ∷ []) atLimits); result = checks 5 }
     -- 32 units not accepted (6, not 4: this file has one)
     ∷ record { call = check (put 2 (0x00 ∷ 0x20 ∷ []) atLimits); result = checks 6 }
+    -- 32 units not accepted, or not each read
+    ∷ record { call = check (fileOf 5 (replicate 32 U)); result = checks 0 }
     -- 33 units
     ∷ record { call = check (put 2 (0x00 ∷ 0x21 ∷ []) atLimits); result = checks 4 }
     -- c0 up to 1,000,000,001
@@ -392,10 +401,10 @@ limits =
     ∷ record { call = check (take 41 u5); result = checks 6 }
     -- the second unit's z not held against its length
     ∷ record { call = check (put 74 (0x00 ∷ 0x01 ∷ []) (site 26)); result = checks 7 }
-    -- 608 numbers not accepted (9, not 12: least is 0)
-    ∷ record { call = pack 5 (replicate 608 0); result = refuses 9 buffer }
+    -- 32 rows not accepted, or read as more rows (13: the buffer has 92 bytes)
+    ∷ record { call = pack 5 (copies 32 rowOfU); result = refuses 13 buffer }
     -- 33 rows
-    ∷ record { call = pack 5 (replicate 627 0); result = refuses 12 buffer }
+    ∷ record { call = pack 5 (copies 33 rowOfU); result = refuses 12 buffer }
     -- packing with d 320,000 refused
     ∷ record { call = pack 320000 rowOfU; result = writes 42 (put 4 (0x00 ∷ 0x04 ∷ 0xE2 ∷ 0x00 ∷ []) u5 ++ replicate 50 255) }
     ∷ []
@@ -582,7 +591,7 @@ unfoldable pub searches : List Row
 searches =
     -- step 2 evaluates another multiplier than 0; step 3 made where step 2 covers
     record { call = searchFor 0; result = finds 0 (0 ∷ []) }
-    -- step 2 covers one too many; the search stops before high − low is 1
+    -- step 2 covers with a net below the target; the search ends before high − low is 1
     ∷ record { call = searchFor 1; result = finds 1 (1 ∷ 2 ∷ 4 ∷ 8 ∷ 16 ∷ 32 ∷ 64 ∷ 128 ∷ 256 ∷ 512 ∷ 1024 ∷ 2048 ∷ 4096 ∷ 8192 ∷ 16384 ∷ 32768 ∷ 65536 ∷ 0 ∷ []) }
     -- no stop at equal net in the first middle
     ∷ record { call = searchFor 65536; result = finds 32768 (32768 ∷ 65536 ∷ 0 ∷ []) }
@@ -595,7 +604,7 @@ searches =
     -- step 3 goes on without cover, or ends with its own choices
     ∷ record { call = searchFor 131073; result = finds 70000 (65536 ∷ 0 ∷ []) }
     -- the best of a step 3 without cover is not the greatest outputs
-    ∷ record { call = solveOffers 5000 (lossiest ∷ []); result = solves (10000 ∷ []) 200000000000 59982892 2 0 }
+    ∷ record { call = solveOffers 5000 (largestLosses ∷ []); result = solves (10000 ∷ []) 200000000000 59982892 2 0 }
     ∷ []
 
 pub table-holds : map (λ r. answer (r .call)) table ≡ map (λ r. r .result) table
@@ -607,7 +616,7 @@ unfolding answer further u5 u5Reply u10Reply site siteReply rowOfU rowsOfSite U 
 further-holds = refl
 
 pub limits-hold : map (λ r. answer (r .call)) limits ≡ map (λ r. r .result) limits
-unfolding answer limits u5 site atLimits rowOfU zoned sharedEdge
+unfolding answer limits u5 site atLimits rowOfU U zoned sharedEdge
 limits-hold = refl
 
 pub refusals-hold : map (λ r. answer (r .call)) refusals ≡ map (λ r. r .result) refusals
@@ -623,5 +632,5 @@ unfolding answer panelForms u5 shortHead otherEdition noUnit demandAbove byteToo
 panel-forms-hold = refl
 
 pub searches-hold : map (λ r. answer (r .call)) searches ≡ map (λ r. r .result) searches
-unfolding answer searches lossiest
+unfolding answer searches largestLosses
 searches-hold = refl
