@@ -4,7 +4,6 @@ use native.Mathlib.Omega.{arith}
 use mathlib.Core.Path.{_≡_, sym, ap₂, _∙_}
 use lib.Dec.{T}
 use lib.IntN.{ℤ, pos, natAbs, _-ℤ_}
-use lib.ListN.{length}
 use lib.Signed.{nonNeg}
 use mir.Syntax.{w64}
 use mir.Val.{SFits, toZ, ofZ}
@@ -58,11 +57,10 @@ module _ {t : ℕ} {f : code-found.Found} (s : Stateable t f) (fitted : SFits w6
         outputs = f .best .outputs;
       }
 
-  pub states : length (f .best .outputs) ≡ 32 → States t f reply
+  pub states : States t f reply
   unfolding replyOf
-  states long =
+  states =
       record {
-        long = long;
         held = λ q i g h. λ n.
             record {
               evaluations = h .evaluations n;

@@ -22,7 +22,7 @@ pub record Searchable (coefficients ends ranges : List ℕ) (n t : ℕ) : Type 0
   pub problem : Problem
   pub holds : Holding coefficients ends ranges n t problem
 
--- ---- of the problems that have H, those that the arrays hold
+-- ---- H q says that the arrays hold q
 
 abbrev pub sumsOf : code-allocation.Allocation → Sums
 sumsOf a = record { cost = a .cost; net = a .net }

@@ -23,7 +23,6 @@ pub record Stateable (t : ℕ) (f : code-found.Found) : Type 0 where
   pub positive : pos 0 ≤ℤ f .floor
 
 pub record States (t : ℕ) (f : code-found.Found) (r : code-reply.Reply) : Type 0 where
-  pub long : length (r .outputs) ≡ 32
   pub held : (q : Problem) → t ≡ target q → (g : Found (List ℕ)) → HoldsFound q g f → replyHeld (length (q .offers)) r ≡ replyOf q g
 
 -- the arrays hold a problem that step 1 accepts, and its first best

@@ -4,5 +4,3 @@ mod reply;
 mod search;
 
 pub use dispatching::dispatch;
-pub use dispatching::solve;
-pub use reply::Reply;

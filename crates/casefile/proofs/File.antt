@@ -1,15 +1,15 @@
 -- The verdict on a file, place by place, and what an accepted file is.
 use Prim.Native.Nat.{ℕ, _<_}
-use mathlib.Core.Path.{_≡_, refl, sym, _∙_}
+use mathlib.Core.Path.{_≡_, refl}
 use mathlib.Core.List.{List}
 use Rattle.rules.specs.Lists.{each}
-use Rattle.rules.specs.Layout.{count, body, unitAt}
-use Rattle.rules.specs.Refusal.{inOrder, headVerdict, contentsVerdict, unitVerdict, bodyVerdict, fileVerdict}
+use Rattle.rules.specs.Layout.{count, body}
+use Rattle.rules.specs.Refusal.{inOrder, headVerdict, contentsVerdict, bodyVerdict, fileVerdict}
 use Rattle.rules.specs.declared.Refusal.{Refusal}
 use Rattle.rules.specs.declared.Verdict.the-variants.{Accepted, Refused}
 use Rattle.rules.proofs.Encoding.SoundFile.{sound-file}
 use Rattle.casefile.specs.Required.{BodyInside, BodyFits, HeadRead}
-use Rattle.casefile.proofs.Body.{verdictAt, body-fits, body-accepted}
+use Rattle.casefile.proofs.Body.{verdictAt, body-accepted}
 use Rattle.casefile.proofs.Contents.{inside}
 
 module _ (file : List ℕ) where
@@ -41,6 +41,3 @@ module _ (file : List ℕ) (accepted : fileVerdict file ≡ Accepted) where
 
     pub accepted-fits : BodyFits (body file i)
     accepted-fits = body-accepted (body file i) accepted-body
-
-    pub accepted-unit : unitVerdict (unitAt file i) ≡ Accepted
-    accepted-unit = sym (body-fits (body file i) accepted-fits) ∙ accepted-body

@@ -6,7 +6,6 @@ use native.Mathlib.Nat.{mul-le-mul, mul-le-mul-left, mul-le-mul-right, mul-div-l
 use native.Mathlib.Decide.{decLt}
 use native.Mathlib.Omega.{arith}
 use lib.IntN.{ℤ, _-ℤ_}
-use lib.ListN.{getD}
 use lib.Signed.{_≤ℤ_, _<ℤ_, ≤ℤ-refl}
 use mir.Syntax.{w64}
 use mir.Val.{SFits, toZ, ofZ}
@@ -15,7 +14,7 @@ use Rattle.rules.specs.Choice.{pricedCost}
 use Rattle.rules.proofs.Integers.{Is, up, dn, is-sub, is-minus, cast, fits, kept, same, at-most, under, up-is, dn-is}
 use Rattle.rules.proofs.Sound.{Sound}
 use Rattle.rules.proofs.Economics.Quantities.{cost-is, net-whole, priced-is}
-use Rattle.site.specs.Site.{Coefficients}
+use Rattle.site.specs.Site.{c0At, c1At, c2At, bAt, Coefficients}
 use Rattle.pricing.specs.declared.Curve as code
 use Rattle.pricing.specs.Curve.{height, IsCurve, InRange, AtOutput, AtMultiplier}
 use Rattle.pricing.specs.Choosing.{Valley}
@@ -24,10 +23,10 @@ use Rattle.pricing.specs.Choosing.{Valley}
 
 -- the coefficients of unit i
 pub record Limits (coefficients : List ℕ) (i : ℕ) : Type 0 where
-  pub c0 : getD coefficients (4 * i) 0 ≤ 1000000000
-  pub c1 : getD coefficients (4 * i + 1) 0 ≤ 10000000
-  pub c2 : getD coefficients (4 * i + 2) 0 ≤ 1000
-  pub b : getD coefficients (4 * i + 3) 0 ≤ 5000
+  pub c0 : c0At coefficients i ≤ 1000000000
+  pub c1 : c1At coefficients i ≤ 10000000
+  pub c2 : c2At coefficients i ≤ 1000
+  pub b : bAt coefficients i ≤ 5000
 
 limits : {coefficients : List ℕ} {i : ℕ} {u : Unit} → Coefficients coefficients i u → Limits coefficients i
 limits h =
@@ -38,15 +37,15 @@ limits h =
 pub record AtOutputRange (coefficients : List ℕ) (i p : ℕ) : Type 0 where
   pub limits : Limits coefficients i
   pub few : i < 32
-  pub square : getD coefficients (4 * i + 2) 0 * p ≤ 10000000
-  pub slope : (getD coefficients (4 * i + 1) 0 + getD coefficients (4 * i + 2) 0 * p) * p ≤ 200000000000
-  pub loss : getD coefficients (4 * i + 3) 0 * p ≤ 50000000
-  pub net : (100000000 - getD coefficients (4 * i + 3) 0 * p) * p ≤ 1000000000000
+  pub square : c2At coefficients i * p ≤ 10000000
+  pub slope : (c1At coefficients i + c2At coefficients i * p) * p ≤ 200000000000
+  pub loss : bAt coefficients i * p ≤ 50000000
+  pub net : (100000000 - bAt coefficients i * p) * p ≤ 1000000000000
 
 pub at-output : {coefficients : List ℕ} {i p : ℕ} → AtOutput coefficients i p → AtOutputRange coefficients i p
 at-output {coefficients} {i} {p} h =
     let l = limits (h .holds) in
-    let square : getD coefficients (4 * i + 2) 0 * p ≤ 1000 * 10000 = mul-le-mul (l .c2) (h .output) in
+    let square : c2At coefficients i * p ≤ 1000 * 10000 = mul-le-mul (l .c2) (h .output) in
     record {
       limits = l;
       few = h .few;
@@ -61,7 +60,7 @@ pub record AtMultiplierRange (coefficients : List ℕ) (i m : ℕ) : Type 0 wher
   pub limits : Limits coefficients i
   pub few : i < 32
   pub multiplier : m ≤ 65536
-  pub loss : m * getD coefficients (4 * i + 3) 0 ≤ 327680000
+  pub loss : m * bAt coefficients i ≤ 327680000
 
 pub at-multiplier : {coefficients : List ℕ} {i m : ℕ} → AtMultiplier coefficients i m → AtMultiplierRange coefficients i m
 at-multiplier h = let l = limits (h .holds) in record { limits = l; few = h .few; multiplier = h .multiplier; loss = mul-le-mul (h .multiplier) (l .b) }
@@ -69,10 +68,10 @@ at-multiplier h = let l = limits (h .holds) in record { limits = l; few = h .few
 -- ---- cost and net, as they are computed
 
 module _ {coefficients : List ℕ} {i : ℕ} {u : Unit} (h : Coefficients coefficients i u) (p : ℕ) where
-  pub cost-computed : getD coefficients (4 * i) 0 + (getD coefficients (4 * i + 1) 0 + getD coefficients (4 * i + 2) 0 * p) * p ≡ cost u p
+  pub cost-computed : c0At coefficients i + (c1At coefficients i + c2At coefficients i * p) * p ≡ cost u p
   cost-computed = rw (h .c0, h .c1, h .c2) (omega (arith, cost-is u p))
 
-  pub net-computed : p ≤ 10000 → (100000000 - getD coefficients (4 * i + 3) 0 * p) * p ≡ net u p
+  pub net-computed : p ≤ 10000 → (100000000 - bAt coefficients i * p) * p ≡ net u p
   net-computed k =
       let loss : u .b * p ≤ 50000000 = mul-le-mul (h .sound .b) k in
       let whole : (100000000 - u .b * p) + u .b * p ≡ 100000000 = omega arith in
@@ -85,23 +84,23 @@ module _ {coefficients : List ℕ} {i m : ℕ} (h : AtMultiplier coefficients i 
   r = at-multiplier h
 
   abbrev line : ℤ
-  line = toZ w64 (100000 * getD coefficients (4 * i + 1) 0) -ℤ toZ w64 (100000000 * m)
+  line = toZ w64 (100000 * c1At coefficients i) -ℤ toZ w64 (100000000 * m)
 
-  line-is : Is line (100000 * getD coefficients (4 * i + 1) 0 + 0) (0 + 100000000 * m)
+  line-is : Is line (100000 * c1At coefficients i + 0) (0 + 100000000 * m)
   line-is = is-minus (cast _ (omega (arith, r .limits .c1))) (cast _ (omega (arith, r .multiplier)))
 
   pub line-fits : SFits w64 line
   line-fits = fits line-is (omega (arith, r .limits .c1)) (omega (arith, r .multiplier))
 
-  line-read : Is (toZ w64 (ofZ w64 line)) (100000 * getD coefficients (4 * i + 1) 0) (100000000 * m)
+  line-read : Is (toZ w64 (ofZ w64 line)) (100000 * c1At coefficients i) (100000000 * m)
   line-read = record { is = omega (arith, kept line-is (omega (arith, r .limits .c1)) (omega (arith, r .multiplier))) }
 
   abbrev computed : code.Curve
   computed =
       record {
-        square = 100000 * getD coefficients (4 * i + 2) 0 + m * getD coefficients (4 * i + 3) 0;
+        square = 100000 * c2At coefficients i + m * bAt coefficients i;
         linear = toZ w64 (ofZ w64 line);
-        constant = 100000 * getD coefficients (4 * i) 0;
+        constant = 100000 * c0At coefficients i;
       }
 
   pub curve-computed : InRange computed × ((u : Unit) → Coefficients coefficients i u → IsCurve m u computed)

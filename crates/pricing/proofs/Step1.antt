@@ -53,7 +53,7 @@ module _ {file coefficients ends ranges : List ℕ} {n t : ℕ} (s : Site file c
 
   pub covered : t ≤ w → First file coefficients ends ranges outputs n t c w
   unfolding caseVerdict
-  covered h = record { accepted = rw (s .accepted, solved true (le-leb t w h)); site = s; allocates = a; covers = h }
+  covered h = record { accepted = rw (s .accepted, solved true (le-leb t w h)); site = s; allocates = a }
 
 -- ---- what pricing answers
 

@@ -1,4 +1,4 @@
--- A unit's priced cost at a multiplier as a curve, square × p² + linear × p + constant. This file alone says which coefficients it is made of.
+-- A unit's priced cost at a multiplier as a curve, square × p² + linear × p + constant. Of the definitions this alone says which coefficients it is made of.
 use Prim.Native.Nat.{ℕ, _+_, _*_, _≤_, _<_}
 use mathlib.Core.Path.{_≡_}
 use mathlib.Core.List.{List}

@@ -1,5 +1,5 @@
 -- Step 1 of a file: its problem in the arrays with the greatest outputs, which cover; or the refusal of the case.
-use Prim.Native.Nat.{ℕ, _≤_}
+use Prim.Native.Nat.{ℕ}
 use mathlib.Core.Path.{_≡_}
 use mathlib.Core.List.{List}
 use Rattle.rules.specs.Lists.{greatest}
@@ -13,7 +13,6 @@ pub record First (file coefficients ends ranges outputs : List ℕ) (n t c w : �
   pub accepted : caseVerdict file ≡ Verdict.Accepted
   pub site : Site file coefficients ends ranges n t
   pub allocates : Allocates (λ o. greatest (o .outputs)) coefficients ends ranges n outputs (record { cost = c; net = w })
-  pub covers : t ≤ w
 
 abbrev pub FindsFirst : List ℕ → List ℕ → List ℕ → List ℕ → List ℕ → FirstBest → Type 0
 FindsFirst file coefficients ends ranges outputs (FirstBest.Found n t c w) = First file coefficients ends ranges outputs n t c w

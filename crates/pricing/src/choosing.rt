@@ -9,7 +9,13 @@ ghost use Rattle.pricing.specs.Curve.{height, InRange};
 ghost use Rattle.pricing.specs.Choosing.{Places, Reaching, Running, Beside, Choosable};
 use crate::Curve;
 use crate::units::priced_cost;
-use crate::units::wide;
+
+// An output in 64 bits.
+fn wide(x: u16) -> u64
+    ensures { λ r. ⌜ r ≡ x ⌝ }
+{
+    x as u64
+}
 
 // The better of two outputs, the later on a tie.
 fn better(c: Curve, below: u16, above: u16) -> u16
@@ -69,7 +75,7 @@ fn choose_running(ends: &[u16; 384], first: usize, last: usize, c: Curve) -> u16
     choose_beside(ends, first, last, c, (over / by as i64) as u16)
 }
 
-// The first running region: the one after 0..0, if `first` is that.
+// The first running region: the one after 0..0, if `first` is that; one past the last if there is no other.
 fn first_running(ends: &[u16; 384], first: usize) -> usize
     requires { ⌜ first < 192 ⌝ }
     ensures { λ r. ⌜ (high (now (ends .entry)) first ≡ 0 → r ≡ first + 1) × ((high (now (ends .entry)) first ≡ 0 → ⊥) → r ≡ first) ⌝ }

@@ -11,7 +11,8 @@ use rules::Priced;
 use rules::Refusal;
 use site::Decoded;
 
-// Checks and decodes a case file and runs step 1: writes the site's arrays and the greatest outputs, or refuses the case.
+// Checks and decodes a case file and runs step 1: writes the site's arrays and the greatest outputs, or
+// refuses the case; what then stands in the arrays means nothing.
 pub fn first_best(
     file: &[u8],
     coefficients: &mut [u64; 128],

@@ -6,12 +6,6 @@ ghost use Rattle.site.specs.Site.{Coefficients};
 ghost use Rattle.pricing.specs.Curve.{height, InRange, AtOutput, AtMultiplier, IsCurve};
 use crate::Curve;
 
-pub fn wide(x: u16) -> u64
-    ensures { λ r. ⌜ r ≡ x ⌝ }
-{
-    x as u64
-}
-
 // The cost of unit `i` at output `p`.
 pub fn cost_of(coefficients: &[u64; 128], i: usize, p: u16) -> u64
     requires { ⌜ AtOutput (now coefficients) i p ⌝ }

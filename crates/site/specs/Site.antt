@@ -30,13 +30,26 @@ first ranges i = getD ranges (2 * i) 0
 abbrev pub last : List ℕ → ℕ → ℕ
 last ranges i = getD ranges (2 * i + 1) 0
 
--- the coefficients of unit i are those of u, which is sound
+-- the coefficients of unit i: constant, linear and quadratic cost, and loss
+abbrev pub c0At : List ℕ → ℕ → ℕ
+c0At coefficients i = getD coefficients (4 * i) 0
+
+abbrev pub c1At : List ℕ → ℕ → ℕ
+c1At coefficients i = getD coefficients (4 * i + 1) 0
+
+abbrev pub c2At : List ℕ → ℕ → ℕ
+c2At coefficients i = getD coefficients (4 * i + 2) 0
+
+abbrev pub bAt : List ℕ → ℕ → ℕ
+bAt coefficients i = getD coefficients (4 * i + 3) 0
+
+-- they are those of u, which is sound
 pub record Coefficients (coefficients : List ℕ) (i : ℕ) (u : Unit) : Type 0 where
   pub sound : Sound u
-  pub c0 : getD coefficients (4 * i) 0 ≡ u .c0
-  pub c1 : getD coefficients (4 * i + 1) 0 ≡ u .c1
-  pub c2 : getD coefficients (4 * i + 2) 0 ≡ u .c2
-  pub b : getD coefficients (4 * i + 3) 0 ≡ u .b
+  pub c0 : c0At coefficients i ≡ u .c0
+  pub c1 : c1At coefficients i ≡ u .c1
+  pub c2 : c2At coefficients i ≡ u .c2
+  pub b : bAt coefficients i ≡ u .b
 
 -- ---- regions
 
@@ -93,7 +106,7 @@ noOffer =
       outputs = [];
     }
 
--- the first n units of the arrays are the problem q
+-- the first n units of the arrays are the offers of q, whose demand is in range
 pub record HoldsProblem (coefficients ends ranges : List ℕ) (n : ℕ) (q : Problem) : Type 0 where
   pub count : length (q .offers) ≡ n
   pub few : n ≤ 32

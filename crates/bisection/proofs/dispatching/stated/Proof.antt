@@ -1,6 +1,4 @@
 -- `bisection::dispatching::stated` meets its contract: gap and surplus are in range and exact (`Stating`).
-use lib.ListN.{length}
-use mathlib.Core.Path.{_≡_}
 use mir.Syntax.{w64}
 use mir.Val.{SFits}
 use Rattle.bisection.proofs.Stating.{gap-fits, gap-not-negative, gap-small, states}
@@ -11,9 +9,6 @@ use Rattle.bisection.proofs.dispatching.stated.Tie as tie
 -- what every struct of the type holds
 floor-fits : (c : tie.Start) → SFits w64 (c .args .f .floor)
 floor-fits c = search needs
-
-outputs-long : (c : tie.Start) → length (c .args .f .best .outputs) ≡ 32
-outputs-long c = search needs
 
 cast-t9 : tie.Need-cast-t9
 cast-t9 c = search needs
@@ -28,7 +23,7 @@ sub-t12 : tie.Need-sub-t12
 sub-t12 c = search needs
 
 returns : tie.Need-returns
-returns c = let s = c .before .before .before in states (s .pre) (floor-fits s) (outputs-long s)
+returns c = let s = c .before .before .before in states (s .pre) (floor-fits s)
 
 pub stated-spec : {M : Type 1} → statement M
 stated-spec = tie.close (tie.spec cast-t9 sub-t10 cast-t11 sub-t12 returns)
