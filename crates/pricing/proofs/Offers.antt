@@ -1,20 +1,23 @@
 -- What is picked of an offer that the arrays hold: the choice in its regions is the offer's choice, and the end of the last region its greatest output.
-use mathlib.Core.Path.{_≡_, refl, sym, _∙_}
+use mathlib.Core.Path.{_≡_, refl, sym, ap, _∙_}
 use mathlib.Core.List.{List, [], _∷_}
 use mathlib.Core.Logic.{inl, inr}
-use Prim.Native.Nat.{ℕ, _≤_, _<_}
+use Prim.Native.Nat.{ℕ, _+_, _*_, _≤_, _<_}
 use native.Mathlib.Omega.{arith}
 use lib.IntN.{ℤ}
 use Rattle.rules.specs.Lists.{greatest}
-use Rattle.rules.specs.Problem.{Offer, Problem}
-use Rattle.rules.specs.Choice.{pricedCost, choice}
+use Rattle.rules.specs.Problem.{Offer, Problem, target}
+use Rattle.rules.specs.Choice.{pricedCost, choice, choices, dualValue}
 use Rattle.rules.proofs.Lists.{Every, every-from}
+use Rattle.rules.proofs.Integers.{Is, same}
 use Rattle.rules.proofs.Economics.Chosen.{Chosen, Among, some-among, unique, alike, scanned}
-use Rattle.rules.proofs.Economics.Allocations.{Proper, at-most-greatest}
+use Rattle.rules.proofs.Economics.Allocations.{Proper, dual-is, at-most-greatest}
 use Rattle.site.specs.Site.{first, last, high, Within, noOffer, HoldsOffer, HoldsProblem}
 use Rattle.pricing.specs.declared.Curve as code
 use Rattle.pricing.specs.Curve.{height, IsCurve, InRange}
 use Rattle.pricing.specs.Choosing.{Choosable}
+use Rattle.pricing.specs.declared.Sums as code-sums
+use Rattle.pricing.specs.Totals.{Allocates}
 use Rattle.pricing.proofs.Heights.{priced-curve}
 use Rattle.pricing.proofs.Regions.{small, to-highest, highest}
 
@@ -48,6 +51,13 @@ module _ {coefficients ends ranges : List ℕ} {i : ℕ} {o : Offer} (h : HoldsO
 
   pub greatest-small : high ends (last ranges i) ≤ 10000
   greatest-small = small (h .regions) (high ends (last ranges i)) (highest (h .regions))
+
+-- the dual value of what is picked by choice, as it is computed, is the problem's
+pub dual-held : (t m : ℕ) {coefficients ends ranges outputs : List ℕ} {n : ℕ} {s : code-sums.Sums} {d : ℤ} → Allocates (choice m) coefficients ends ranges n outputs s → Is d (100000 * s .cost + m * t) (m * s .net) → (q : Problem) → HoldsProblem coefficients ends ranges n q → t ≡ target q → d ≡ dualValue m q
+unfolding choices
+dual-held t m a k q h e =
+    let o = a .held q h in
+    same k (dual-is m q) (omega (arith, o .cost, ap (λ (x : ℕ). m * x) (o .net), ap (λ (x : ℕ). m * x) e))
 
 -- a problem that the arrays hold has proper offers
 pub held-proper : {coefficients ends ranges : List ℕ} {n : ℕ} {q : Problem} → HoldsProblem coefficients ends ranges n q → Every Proper (q .offers)

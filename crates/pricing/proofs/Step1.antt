@@ -1,5 +1,5 @@
 -- Step 1 of a file whose problem the arrays hold: every unit has an output, so that the case is accepted exactly if the greatest outputs cover. And what pricing answers, case by case.
-use mathlib.Core.Path.{_≡_, ap, ap₂}
+use mathlib.Core.Path.{_≡_, ap₂}
 use mathlib.Core.Bool.{Bool, true, false}
 use mathlib.Core.List.{List}
 use Prim.Native.Nat.{ℕ, _+_, _*_, _≤_, _<_}
@@ -10,7 +10,7 @@ use lib.ListN.{length}
 use borrow.Author.Tests.{lt-ltb, le-ltb, lt-leb, le-leb}
 use Rattle.rules.specs.Lists.{all, greatest}
 use Rattle.rules.specs.Problem.{Offer, Problem, totalNet, unitsOf, target, problemIn}
-use Rattle.rules.specs.Choice.{choice, choices, dualValue}
+use Rattle.rules.specs.Choice.{choice, choices}
 use Rattle.rules.specs.Bisection.{greatestOutputs, solvable}
 use Rattle.rules.specs.Calls.{caseVerdict, priceVerdict, priceEnds, priced}
 use Rattle.rules.specs.declared.Refusal.{Refusal}
@@ -18,14 +18,14 @@ use Rattle.rules.specs.declared.Refusal.the-variants.{NoAllocation, MultiplierO
 use Rattle.rules.specs.declared.Verdict.the-variants.{Refused}
 use Rattle.rules.specs.declared.Priced.{Priced}
 use Rattle.rules.proofs.Lists.{every-from, all-every}
-use Rattle.rules.proofs.Integers.{Is, same}
+use Rattle.rules.proofs.Integers.{Is}
 use Rattle.rules.proofs.Economics.Chosen.{some-among}
-use Rattle.rules.proofs.Economics.Allocations.{dual-is}
 use Rattle.site.specs.Site.{noOffer, HoldsOffer, HoldsProblem, Site}
 use Rattle.pricing.specs.declared.Sums as code
 use Rattle.pricing.specs.Totals.{Allocates, Dualable}
 use Rattle.pricing.specs.Step1.{First}
 use Rattle.pricing.proofs.Regions.{lowest}
+use Rattle.pricing.proofs.Offers.{dual-held}
 
 -- ---- the verdict on the case
 
@@ -83,5 +83,4 @@ module _ (file : List ℕ) {m : ℕ} where
       valued {outputs} {s} {d} a k =
           let q = problemIn file in
           let o = a .held q (f .site .holds) in
-          let same-dual : d ≡ dualValue m q = same k (dual-is m q) (omega (arith, o .cost, ap (λ (x : ℕ). m * x) (o .net), ap (λ (x : ℕ). m * x) (f .site .demanded))) in
-          rw (le-ltb 65536 m h, f .accepted) (ap₂ Priced.Valued same-dual (ap₂ leb (f .site .demanded) (o .net)))
+          rw (le-ltb 65536 m h, f .accepted) (ap₂ Priced.Valued (dual-held t m a k q (f .site .holds) (f .site .demanded)) (ap₂ leb (f .site .demanded) (o .net)))

@@ -1,19 +1,17 @@
 -- What writing a unit does to what the arrays hold: another unit stays, since it stands in other places; and the unit itself is held, if it has a permitted output.
 use mathlib.Core.Path.{_≡_, sym, _∙_}
 use mathlib.Core.Bool.{true, false, true≢false}
-use mathlib.Core.List.{List, [], _∷_}
+use mathlib.Core.List.{List}
 use mathlib.Core.Logic.{_⊎_, inl, inr, _↔_}
 use Prim.Native.Nat.{ℕ, _+_, _*_, _-_, _≤_, _<_}
 use native.Mathlib.Decide.{decLt}
 use native.Mathlib.Omega.{arith}
 use lib.ListN.{getD}
 use Rattle.rules.specs.Unit.{Unit}
-use Rattle.rules.specs.Problem.{Offer, offer, problemOf}
-use Rattle.rules.proofs.Sound.{Sound}
+use Rattle.rules.specs.Problem.{Offer, offer}
 use Rattle.rules.proofs.Economics.Chosen.{Among, none-among}
-use Rattle.rules.proofs.Economics.Allocations.{Proper}
 use Rattle.rules.proofs.Economics.Outputs.{offered-permitted, permitted-offered}
-use Rattle.rules.proofs.Economics.Solvable.{case-proper}
+use Rattle.rules.proofs.Economics.Solvable.{offer-proper}
 use Rattle.site.specs.Site.{low, high, first, last, Within, Regions, HoldsOffer}
 use Rattle.site.specs.Writing.{KeptOutside, RegionsWritten, CoefficientsWritten, RangeWritten, UnitWritten}
 use Rattle.site.proofs.KeptOutside.{kept-all}
@@ -80,10 +78,6 @@ module _ {coefficients ends ranges coefficients′ ends′ ranges′ : List ℕ}
 
 -- ---- a unit is written
 
-proper : {u : Unit} → Sound u → Proper (offer u)
-unfolding problemOf
-proper {u} s = case-proper (record { demand = 0; units = u ∷ [] }) (s, tt) .0
-
 module _ {u : Unit} {i next : ℕ} {coefficients ends coefficients′ ends′ : List ℕ} (cs : CoefficientsWritten u i coefficients coefficients′) (rs : RegionsWritten u (6 * i) ends ends′ next) where
   others : {ranges ranges′ : List ℕ} → KeptOutside (2 * i) (2 * i + 2) ranges ranges′ → (j : ℕ) → (j ≡ i → ⊥) → (o : Offer) → HoldsOffer coefficients ends ranges j o → HoldsOffer coefficients′ ends′ ranges′ j o
   others {ranges} {ranges′} kept j n = by (decLt j i)
@@ -128,7 +122,7 @@ module _ {u : Unit} {i next : ℕ} {coefficients ends coefficients′ ends′ : 
         record {
           holds = λ _.
               record {
-                proper = proper (cs .holds .sound);
+                proper = offer-proper u (cs .holds .sound);
                 unit = cs .holds;
                 from = omega (arith, r .first);
                 to = omega (arith, r .last, rs .to, some);

@@ -81,14 +81,14 @@ unit-offered : (u : Unit) → offer u .unit ≡ u
 unfolding offer
 unit-offered u = refl
 
+pub offer-proper : (u : Unit) → Sound u → Proper (offer u)
+offer-proper u s =
+    record {
+      sound = subst Sound (sym (unit-offered u)) s;
+      ascends = outputs-ascend u;
+      small = λ p i. omega (arith, permitted-greatest u p (offered-permitted u p i), s .greatest);
+    }
+
 pub case-proper : (c : Case) → Every Sound (c .units) → Every Proper (problemOf c .offers)
 unfolding problemOf
-case-proper c s = every-map Proper offer (c .units) .1 (every-more Sound (λ u. Proper (offer u)) proper (c .units) s)
-  where
-    proper : (u : Unit) → Sound u → Proper (offer u)
-    proper u s =
-        record {
-          sound = subst Sound (sym (unit-offered u)) s;
-          ascends = outputs-ascend u;
-          small = λ p i. omega (arith, permitted-greatest u p (offered-permitted u p i), s .greatest);
-        }
+case-proper c s = every-map Proper offer (c .units) .1 (every-more Sound (λ u. Proper (offer u)) offer-proper (c .units) s)
