@@ -6,7 +6,8 @@
 #include <inttypes.h>
 #include <stdio.h>
 
-/* c0, c1, c2 (cost), b (loss), least, greatest, previous output, up, down, must run, zones; then four pairs of zone edges.
+/* In the order of enum shahfureel_row: c0, c1, c2 (cost), b (loss), least, greatest, previous output, up, down, must run, zones;
+ * then four pairs of zone edges.
  * Outputs are in steps of 0.1 MW, costs in millionths of the currency per hour. */
 static const uint32_t SETS[4 * SHAHFUREEL_ROW_NUMBERS] = {
     120000000, 6200000, 900, 300, 30, 100, 80, 20, 20, 1, 1, 45, 55, 0, 0, 0, 0, 0, 0,
@@ -14,14 +15,6 @@ static const uint32_t SETS[4 * SHAHFUREEL_ROW_NUMBERS] = {
     45000000, 7900000, 600, 450, 15, 60, 0, 0, 0, 0, 0, 0, 0, 0, 0, 0, 0, 0, 0,
     2000000, 300000, 100, 800, 10, 50, 30, 50, 50, 0, 1, 20, 28, 0, 0, 0, 0, 0, 0,
 };
-
-static uint64_t field(const uint8_t *at, int bytes)
-{
-    uint64_t n = 0;
-    for (int i = 0; i < bytes; i++)
-        n = n << 8 | at[i];
-    return n;
-}
 
 /* a word, and an amount in millionths of the currency */
 static void print_amount(const char *word, uint64_t millionths)
@@ -31,13 +24,13 @@ static void print_amount(const char *word, uint64_t millionths)
 
 static void print_outputs(const uint8_t *reply)
 {
-    uint64_t units = field(reply, 2);
-    for (uint64_t i = 0; i < units; i++) {
-        uint64_t steps = field(reply + SHAHFUREEL_REPLY_OUTPUTS_AT + 2 * i, 2);
+    unsigned units = shahfureel_reply_count(reply);
+    for (unsigned i = 0; i < units; i++) {
+        unsigned steps = shahfureel_reply_output(reply, i);
         if (steps == 0)
-            printf("set %" PRIu64 " stands\n", i + 1);
+            printf("set %u stands\n", i + 1);
         else
-            printf("set %" PRIu64 " gives %" PRIu64 ".%" PRIu64 " MW\n", i + 1, steps / 10, steps % 10);
+            printf("set %u gives %u.%u MW\n", i + 1, steps / 10, steps % 10);
     }
 }
 
@@ -70,7 +63,7 @@ int main(int arguments, char **argument)
     uint32_t answer = shahfureel_dispatch(file, length, reply, sizeof reply);
     if (answer < SHAHFUREEL_LENGTH_MIN)
         return refused("dispatch", answer);
-    uint64_t cost = field(reply + 4, 8), gap = field(reply + 12, 8);
+    uint64_t cost = shahfureel_reply_cost(reply), gap = shahfureel_reply_gap(reply);
     print_outputs(reply);
     print_amount("cost an hour:", cost);
     print_amount("gap: at most so much above the best:", gap);

@@ -1,16 +1,61 @@
 /* Shahfureel: economic dispatch of generating sets, with a proved bound on the distance from the best.
  *
- * Four calls. Link with the static library of crate `panel` (see README.md). The calls use no memory but their arguments and
- * the stack, keep nothing between calls, and may be used from several threads at once.
+ * A unit is a generating set. A row is a unit's numbers as a list; packing turns rows and a demand into a case file, a few
+ * hundred bytes; dispatch turns a case file into a reply: who gives how much, what it costs, and the gap to the best.
+ *
+ * A whole program: one unit that can give 0.2 to 1.0 MW, but nothing strictly between 0.4 and 0.7 MW, is asked for 0.5 MW.
+ * It prints "unit 1 gives 0.7 MW" and "cost 119000, nobody does it for less than 77000".
+ *
+ *         #include "shahfureel.h"
+ *
+ *         #include <stdio.h>
+ *
+ *         int main(void)
+ *         {
+ *             uint32_t row[SHAHFUREEL_ROW_NUMBERS] = {0};
+ *             uint8_t file[SHAHFUREEL_FILE_BYTES_MAX];
+ *             uint8_t reply[SHAHFUREEL_REPLY_BYTES];
+ *
+ *             row[SHAHFUREEL_ROW_C1] = 10000;
+ *             row[SHAHFUREEL_ROW_C2] = 1000;
+ *             row[SHAHFUREEL_ROW_LEAST] = 2;
+ *             row[SHAHFUREEL_ROW_GREATEST] = 10;
+ *             row[SHAHFUREEL_ROW_ZONES] = 1;
+ *             row[SHAHFUREEL_ROW_EDGES] = 4;
+ *             row[SHAHFUREEL_ROW_EDGES + 1] = 7;
+ *             uint32_t length = shahfureel_pack(5, row, SHAHFUREEL_ROW_NUMBERS, file, sizeof file);
+ *             if (length < SHAHFUREEL_LENGTH_MIN)
+ *                 return (int)length;
+ *             uint32_t answer = shahfureel_dispatch(file, length, reply, sizeof reply);
+ *             if (answer < SHAHFUREEL_LENGTH_MIN)
+ *                 return (int)answer;
+ *             for (uint32_t i = 0; i < shahfureel_reply_count(reply); i++) {
+ *                 unsigned steps = shahfureel_reply_output(reply, i);
+ *                 printf("unit %u gives %u.%u MW\n", (unsigned)i + 1, steps / 10, steps % 10);
+ *             }
+ *             unsigned long long cost = shahfureel_reply_cost(reply), gap = shahfureel_reply_gap(reply);
+ *             printf("cost %llu, nobody does it for less than %llu\n", cost, cost - gap);
+ *             return 0;
+ *         }
+ *
+ * Compile it with  gcc -Iinclude program.c target/staticlib/libpanel.a  (README.md, "From C", says how the library is made).
+ * This header and libpanel.a are all that is needed: both may be copied to a machine without the toolchain, if that is x86-64
+ * with Linux's calling convention. The header is C99 and C++.
  *
  * What each call promises, for every input:
  *   - it returns, and reads and writes nothing outside the buffers that it is lent;
- *   - on a refusal every lent buffer has its former contents;
- *   - otherwise only the start of an output buffer is written, as far as the call says; the rest is untouched.
+ *   - a refusal leaves every lent buffer as it was;
+ *   - otherwise only the start of an output buffer is written, as far as the call says; the rest is untouched;
+ *   - it keeps nothing between calls and allocates nothing. Several threads may call at once, also on the same input, each with
+ *     output buffers of its own. It takes about 3 kB of stack at most (seen, not proved).
  * What the caller must ensure (nothing in C can check it):
- *   - each pointer is valid for its length: bytes, or elements of the list; lists of numbers are aligned for their type;
- *   - a length is at most PTRDIFF_MAX bytes, and a pointer is not null, also where the length is 0;
+ *   - each pointer is valid for its length or room, and lists of numbers are aligned for their type;
+ *   - LENGTHS AND ROOM OF LISTS COUNT NUMBERS, NOT BYTES: rows_length, rows_room, answers_room. For an array that is
+ *     `sizeof rows / sizeof rows[0]`; a bare `sizeof rows` lets the call pass the array's end. File and reply count bytes;
+ *   - a length or room is at most PTRDIFF_MAX bytes, and a pointer is not null, also where the length is 0;
  *   - an output buffer overlaps no other buffer of the same call.
+ * A `..._length` is the exact length of an input: a case file's length is what packing returned or what was read, not the size of
+ * the array that holds it. A `..._room` is the size of an output buffer, which may be greater than needed.
  */
 #ifndef SHAHFUREEL_H
 #define SHAHFUREEL_H
@@ -27,15 +72,105 @@ extern "C" {
 #define SHAHFUREEL_UNITS_MAX 32u             /* units in a case file */
 #define SHAHFUREEL_FILE_BYTES_MAX 1480u      /* no case file is longer */
 #define SHAHFUREEL_REPLY_BYTES 92u           /* a reply buffer has at least as many bytes */
-#define SHAHFUREEL_REPLY_OUTPUTS_AT 28u      /* byte of the reply where the outputs start */
-#define SHAHFUREEL_ROW_NUMBERS 19u           /* numbers to a unit in a planner's row */
+#define SHAHFUREEL_ROW_NUMBERS 19u           /* numbers to a unit in a list of rows */
 #define SHAHFUREEL_ROWS_NUMBERS 608u         /* a list of rows for unpacking has at least as many numbers */
 #define SHAHFUREEL_ANSWERS 2u                /* a list of answers has at least as many numbers */
 #define SHAHFUREEL_MULTIPLIER_MAX 65536u     /* hundredths of the currency per MWh */
 #define SHAHFUREEL_DEMAND_MAX 320000u        /* steps of 0.1 MW */
-#define SHAHFUREEL_LENGTH_MIN 30u            /* shahfureel_dispatch and shahfureel_pack: below this, a refusal */
+#define SHAHFUREEL_RAMP_UNLIMITED 10000u     /* as up or down: no ramp limit that way */
+#define SHAHFUREEL_LENGTH_MIN 30u            /* shahfureel_dispatch and shahfureel_pack: an answer below this is a refusal */
 
-/* ---- refusals, and what to do */
+/* ---- a row: the place of each number. Unit i of a list, counted from 0, starts at rows[SHAHFUREEL_ROW_NUMBERS * i].
+ *
+ * Outputs are in steps of 0.1 MW. At output p a unit costs c0 + c1 * p + c2 * p * p millionths of the currency per hour, and loses
+ * b * p * p hundred-millionths of a step. So a set that costs A + B * P + C * P * P an hour and loses L * P * P MW, at P MW, has
+ * c0 = 1,000,000 A, c1 = 100,000 B, c2 = 10,000 C, b = 10,000,000 L.
+ *
+ * A running output lies from least to greatest and strictly inside no zone (both edges are permitted). If previous is above 0, a
+ * running output also lies from previous - down to previous + up: 0 means that the set may not move that way, 10,000 that there
+ * is no limit. If previous is 0, up and down are ignored. Output 0 is permitted exactly for a set that may stand, ramp or not. */
+
+enum shahfureel_row {
+    SHAHFUREEL_ROW_C0 = 0,                   /* cost: up to 1,000,000,000 */
+    SHAHFUREEL_ROW_C1 = 1,                   /* cost: up to 10,000,000 */
+    SHAHFUREEL_ROW_C2 = 2,                   /* cost: up to 1,000 */
+    SHAHFUREEL_ROW_B = 3,                    /* loss: up to 5,000 */
+    SHAHFUREEL_ROW_LEAST = 4,                /* least running output: at least 1 */
+    SHAHFUREEL_ROW_GREATEST = 5,             /* greatest running output: above least, up to 10,000 */
+    SHAHFUREEL_ROW_PREVIOUS = 6,             /* what the set gives now: up to 10,000; 0 if it stands */
+    SHAHFUREEL_ROW_UP = 7,                   /* by how much it may rise: up to 10,000 */
+    SHAHFUREEL_ROW_DOWN = 8,                 /* by how much it may fall and still run: up to 10,000 */
+    SHAHFUREEL_ROW_MUST_RUN = 9,             /* the mark: 0 may stand, 1 must run */
+    SHAHFUREEL_ROW_ZONES = 10,               /* prohibited zones: 0 to 4 */
+    SHAHFUREEL_ROW_EDGES = 11                /* zone k, from 0: lower edge here + 2 * k, upper edge next; unused are 0 */
+};
+
+/* ---- a reply: the byte at which each field starts. Fields are unsigned and big-endian; the functions below read them. */
+
+enum shahfureel_reply {
+    SHAHFUREEL_REPLY_COUNT = 0,              /* 2 bytes: number of units */
+    SHAHFUREEL_REPLY_EVALUATIONS = 2,        /* 2 bytes: prices of energy that the search evaluated, at most 18 */
+    SHAHFUREEL_REPLY_COST = 4,               /* 8 bytes: millionths of the currency per hour */
+    SHAHFUREEL_REPLY_GAP = 12,               /* 8 bytes: likewise; nobody covers the demand for less than cost - gap */
+    SHAHFUREEL_REPLY_SURPLUS = 20,           /* 8 bytes: net of losses less the demand, hundred-millionths of a step */
+    SHAHFUREEL_REPLY_OUTPUTS = 28            /* 2 bytes to a unit: its output in steps of 0.1 MW, 0 if it stands */
+};
+
+#define SHAHFUREEL_REPLY_OUTPUTS_AT 28u      /* SHAHFUREEL_REPLY_OUTPUTS by its former name */
+
+/* These read a reply that shahfureel_dispatch has written; `unit` counts from 0 and is below shahfureel_reply_count(reply). */
+
+static inline uint64_t shahfureel_big_endian(const uint8_t *at, size_t bytes)
+{
+    uint64_t number = 0;
+    size_t i;
+    for (i = 0; i < bytes; i++)
+        number = number << 8 | at[i];
+    return number;
+}
+
+static inline uint16_t shahfureel_reply_count(const uint8_t *reply)
+{
+    return (uint16_t)shahfureel_big_endian(reply + SHAHFUREEL_REPLY_COUNT, 2);
+}
+
+static inline uint16_t shahfureel_reply_evaluations(const uint8_t *reply)
+{
+    return (uint16_t)shahfureel_big_endian(reply + SHAHFUREEL_REPLY_EVALUATIONS, 2);
+}
+
+static inline uint64_t shahfureel_reply_cost(const uint8_t *reply)
+{
+    return shahfureel_big_endian(reply + SHAHFUREEL_REPLY_COST, 8);
+}
+
+static inline uint64_t shahfureel_reply_gap(const uint8_t *reply)
+{
+    return shahfureel_big_endian(reply + SHAHFUREEL_REPLY_GAP, 8);
+}
+
+static inline uint64_t shahfureel_reply_surplus(const uint8_t *reply)
+{
+    return shahfureel_big_endian(reply + SHAHFUREEL_REPLY_SURPLUS, 8);
+}
+
+static inline uint16_t shahfureel_reply_output(const uint8_t *reply, size_t unit)
+{
+    return (uint16_t)shahfureel_big_endian(reply + SHAHFUREEL_REPLY_OUTPUTS + 2 * unit, 2);
+}
+
+/* ---- refusals, and what to do
+ *
+ * The first that applies is given: dispatch 1 to 11; pricing 14, 1, 2 to 11; unpacking 1 to 10; packing 12, 5, row by row 7 to
+ * 10, then 13.
+ *
+ * 7 to 10 from packing: to find the row, pack the rows one by one, each as a list of its 19 numbers with demand 0. The row that is
+ * refused is the one. From a call on a file: a file that packing has written is never refused with 2 to 10, if it is passed with
+ * its exact length; so another program has made this one, or it was damaged.
+ *
+ * 11: dispatch the same rows with demand 0. Refused with 11 again: zones and ramp limits leave a must-run set no output at all
+ * (dispatch the rows one by one with demand 0 to find it). Answered: the sets together give too little for the demand, as
+ * their limits, zones, ramp limits and losses are. */
 
 enum shahfureel_refusal {
     SHAHFUREEL_BUFFER_TOO_SHORT = 1,         /* lend a reply of 92 bytes, rows of 608 numbers, answers of 2 */
@@ -43,39 +178,39 @@ enum shahfureel_refusal {
     SHAHFUREEL_EDITION_UNKNOWN = 3,          /* the first field is not 1: another format, or bytes swapped */
     SHAHFUREEL_COUNT_OUT_OF_RANGE = 4,       /* the file names no unit, or more than 32 */
     SHAHFUREEL_DEMAND_OUT_OF_RANGE = 5,      /* the demand is above 320,000 steps: is it in steps of 0.1 MW? */
-    SHAHFUREEL_CONTENTS_INVALID = 6,         /* offsets, lengths or the file's end do not fit: file cut or padded? */
-    SHAHFUREEL_ZONE_COUNT_INVALID = 7,       /* more than 4 zones, or not as many as the body or the row has */
+    SHAHFUREEL_CONTENTS_INVALID = 6,         /* offsets, lengths or the file's end do not fit: cut, or its room passed? */
+    SHAHFUREEL_ZONE_COUNT_INVALID = 7,       /* more than 4 zones, or not as many as the body or row has (unused are 0) */
     SHAHFUREEL_COEFFICIENT_OUT_OF_RANGE = 8, /* c0, c1, c2 or b of a unit is above its limit */
     SHAHFUREEL_LIMITS_INVALID = 9,           /* 1 <= least, then zone edges, then greatest <= 10,000: strictly rising */
     SHAHFUREEL_RAMP_OR_MARK_OUT_OF_RANGE = 10, /* previous, up or down above 10,000, or a mark that is not 0 or 1 */
-    SHAHFUREEL_NO_ALLOCATION = 11,           /* nothing permitted covers the demand after losses, or a must-run unit is stuck */
-    SHAHFUREEL_ROWS_INVALID = 12,            /* the list of rows is empty, above 608, or not 19 numbers to a unit */
+    SHAHFUREEL_NO_ALLOCATION = 11,           /* no permitted outputs cover the demand after losses: see above */
+    SHAHFUREEL_ROWS_INVALID = 12,            /* rows_length is 0, above 608, or not 19 to a unit: does it count numbers? */
     SHAHFUREEL_FILE_BUFFER_TOO_SHORT = 13,   /* lend a file buffer of 1,480 bytes */
     SHAHFUREEL_MULTIPLIER_OUT_OF_RANGE = 14  /* the multiplier is above 65,536 */
 };
 
-/* ---- calls. README.md, "The formats", has the case file, a row and the reply field by field. The first refusal that applies is
- * given: dispatch 1 to 11; pricing 14, 1, 2 to 11; unpacking 1 to 10; packing 12, 5, row by row 7 to 10, then 13. */
+/* ---- calls. README.md, "The formats", has the case file byte by byte. */
 
-/* Dispatches a case file. Returns the reply's length, 28 + 2 * units, and writes the reply; or returns a refusal. The outputs
- * in the reply are permitted and cover the demand after losses; no permitted outputs that cover it cost less than cost - gap. */
-uint32_t shahfureel_dispatch(const uint8_t *file, size_t file_length, uint8_t *reply, size_t reply_length);
+/* Dispatches a case file. Returns the reply's length, 28 + 2 * units, and writes the reply; or returns a refusal, which is below
+ * SHAHFUREEL_LENGTH_MIN. The outputs in the reply are permitted and cover the demand after losses; no permitted outputs that cover
+ * it cost less than cost - gap. */
+uint32_t shahfureel_dispatch(const uint8_t *file, size_t file_length, uint8_t *reply, size_t reply_room);
 
 /* Prices a case file at a multiplier, a price of energy in hundredths of the currency per MWh. Returns 0 and writes answers[0],
  * the dual value, and answers[1], 1 where the units' choices at that price cover the demand and else 0; or returns a refusal.
  * The dual value, divided by 100,000 and rounded up, is a lower bound on the cost of whatever covers the demand, in millionths
- * of the currency per hour. It may be negative. */
-uint32_t shahfureel_price(const uint8_t *file, size_t file_length, uint32_t multiplier, int64_t *answers,
-                          size_t answers_length);
+ * of the currency per hour. It may be negative. (answers_room counts numbers: at least 2.) */
+uint32_t shahfureel_price(const uint8_t *file, size_t file_length, uint32_t multiplier, int64_t *answers, size_t answers_room);
 
-/* Packs a demand, in steps of 0.1 MW, and the planner's rows into a case file. Returns the file's length and writes the file; or
- * returns a refusal. */
-uint32_t shahfureel_pack(uint32_t demand, const uint32_t *rows, size_t rows_length, uint8_t *file, size_t file_length);
+/* Packs a demand, in steps of 0.1 MW, and rows into a case file. Returns the file's length, which is the file_length of the other
+ * calls, and writes the file; or returns a refusal, which is below SHAHFUREEL_LENGTH_MIN. (rows_length counts numbers, 19 to a
+ * unit; file_room counts bytes, and 1,480 are always enough.) */
+uint32_t shahfureel_pack(uint32_t demand, const uint32_t *rows, size_t rows_length, uint8_t *file, size_t file_room);
 
 /* Unpacks a case file. Returns 0 and writes 19 numbers to a unit into rows, and answers[0], the demand, and answers[1], the
- * number of units; or returns a refusal. */
-uint32_t shahfureel_unpack(const uint8_t *file, size_t file_length, uint32_t *rows, size_t rows_length, int64_t *answers,
-                           size_t answers_length);
+ * number of units; or returns a refusal. (rows_room and answers_room count numbers: at least 608 and 2.) */
+uint32_t shahfureel_unpack(const uint8_t *file, size_t file_length, uint32_t *rows, size_t rows_room, int64_t *answers,
+                           size_t answers_room);
 
 #ifdef __cplusplus
 }

@@ -1,6 +1,6 @@
 /* The panel's four calls from C, by include/shahfureel.h and the static library alone. Each buffer stands between guards, each byte
  * buffer from 1 to 8 bytes past an aligned address, each input in memory that ends with it; each call is made to answer and to
- * refuse with every number that it can give. */
+ * refuse with every number that it can give. The header's names are compared with bytes, and what it advises is tried. */
 #include "shahfureel.h"
 
 #include <stdio.h>
@@ -19,7 +19,7 @@ static void expect(int holds, const char *call, const char *what)
     }
 }
 
-/* ---- buffers between guards */
+/* ---- buffers between guards. Sizes and places are written out here and below; `sizes_named` compares the header's with them. */
 
 enum { GUARD = 16, ALIGNMENTS = 8, FILLED = 0xA5, BYTES = 1480, NUMBERS = 608, ANSWERS = 3 };
 
@@ -52,7 +52,7 @@ static int numbers_kept_but(size_t count) { return kept_but(number_space, sizeof
 static int answers_kept_but(size_t count) { return kept_but(answer_space, sizeof answer_space, answers, count * sizeof answers[0]); }
 static int all_kept(void) { return bytes_kept_but(byte_space, 0) && numbers_kept_but(0) && answers_kept_but(0); }
 
-/* ---- document 01's case U5: one unit with one zone, demand 5 */
+/* ---- the specification's case U5: one unit with one zone, demand 5 */
 
 enum { U5_BYTES = 42, ROW = 19 };
 
@@ -137,26 +137,26 @@ static const uint8_t *u5_but(size_t at, uint8_t value)
 
 /* ---- dispatch */
 
-static uint32_t dispatch(const uint8_t *from, size_t file_length, size_t alignment, size_t reply_length)
+static uint32_t dispatch(const uint8_t *from, size_t file_length, size_t alignment, size_t reply_room)
 {
     fill();
     uint8_t *file = copy_of(from, file_length, alignment);
-    uint32_t number = shahfureel_dispatch(file, file_length, byte_space + GUARD + alignment, reply_length);
+    uint32_t number = shahfureel_dispatch(file, file_length, byte_space + GUARD + alignment, reply_room);
     release("dispatch", file, from, file_length, alignment);
     return number;
 }
 
-static void dispatch_gives(const uint8_t *file, size_t file_length, size_t alignment, size_t reply_length, uint32_t number,
+static void dispatch_gives(const uint8_t *file, size_t file_length, size_t alignment, size_t reply_room, uint32_t number,
                            const char *what)
 {
-    expect(dispatch(file, file_length, alignment, reply_length) == number, "dispatch", what);
+    expect(dispatch(file, file_length, alignment, reply_room) == number, "dispatch", what);
     expect(all_kept(), "dispatch", "a refusal changes nothing");
 }
 
-static void dispatch_replies(size_t alignment, size_t reply_length)
+static void dispatch_replies(size_t alignment, size_t reply_room)
 {
     const uint8_t *reply = byte_space + GUARD + alignment;
-    expect(dispatch(u5(), U5_BYTES, alignment, reply_length) == sizeof U5_REPLY, "dispatch", "U5 returns 30");
+    expect(dispatch(u5(), U5_BYTES, alignment, reply_room) == sizeof U5_REPLY, "dispatch", "U5 returns 30");
     expect(memcmp(reply, U5_REPLY, sizeof U5_REPLY) == 0, "dispatch", "U5's reply");
     expect(bytes_kept_but(reply, sizeof U5_REPLY), "dispatch", "it writes 28 + 2n bytes and no other");
 }
@@ -180,25 +180,25 @@ static void dispatching(size_t a)
 
 /* ---- pricing */
 
-static uint32_t price(const uint8_t *from, size_t file_length, size_t alignment, uint32_t multiplier, size_t answers_length)
+static uint32_t price(const uint8_t *from, size_t file_length, size_t alignment, uint32_t multiplier, size_t answers_room)
 {
     fill();
     uint8_t *file = copy_of(from, file_length, alignment);
-    uint32_t number = shahfureel_price(file, file_length, multiplier, answers, answers_length);
+    uint32_t number = shahfureel_price(file, file_length, multiplier, answers, answers_room);
     release("price", file, from, file_length, alignment);
     return number;
 }
 
-static void price_gives(const uint8_t *file, size_t file_length, size_t alignment, uint32_t multiplier, size_t answers_length,
+static void price_gives(const uint8_t *file, size_t file_length, size_t alignment, uint32_t multiplier, size_t answers_room,
                         uint32_t number, const char *what)
 {
-    expect(price(file, file_length, alignment, multiplier, answers_length) == number, "price", what);
+    expect(price(file, file_length, alignment, multiplier, answers_room) == number, "price", what);
     expect(all_kept(), "price", "a refusal changes nothing");
 }
 
-static void price_values(size_t alignment, uint32_t multiplier, size_t answers_length, int64_t dual, int64_t covered)
+static void price_values(size_t alignment, uint32_t multiplier, size_t answers_room, int64_t dual, int64_t covered)
 {
-    expect(price(u5(), U5_BYTES, alignment, multiplier, answers_length) == 0, "price", "U5 returns 0");
+    expect(price(u5(), U5_BYTES, alignment, multiplier, answers_room) == 0, "price", "U5 returns 0");
     expect(answers[0] == dual && answers[1] == covered, "price", "U5's dual value and cover");
     expect(answers_kept_but(2), "price", "it writes two answers and no other");
 }
@@ -222,26 +222,26 @@ static void pricing(size_t a)
 
 /* ---- packing */
 
-static uint32_t pack(uint32_t demand, const uint32_t *from, size_t rows_length, size_t alignment, size_t file_length)
+static uint32_t pack(uint32_t demand, const uint32_t *from, size_t rows_length, size_t alignment, size_t file_room)
 {
     fill();
     uint32_t *rows = copy_of(from, rows_length * sizeof from[0], sizeof from[0]);
-    uint32_t number = shahfureel_pack(demand, rows, rows_length, byte_space + GUARD + alignment, file_length);
+    uint32_t number = shahfureel_pack(demand, rows, rows_length, byte_space + GUARD + alignment, file_room);
     release("pack", rows, from, rows_length * sizeof from[0], sizeof from[0]);
     return number;
 }
 
-static void pack_gives(uint32_t demand, const uint32_t *rows, size_t rows_length, size_t alignment, size_t file_length,
+static void pack_gives(uint32_t demand, const uint32_t *rows, size_t rows_length, size_t alignment, size_t file_room,
                        uint32_t number, const char *what)
 {
-    expect(pack(demand, rows, rows_length, alignment, file_length) == number, "pack", what);
+    expect(pack(demand, rows, rows_length, alignment, file_room) == number, "pack", what);
     expect(all_kept(), "pack", "a refusal changes nothing");
 }
 
-static void pack_writes(size_t alignment, size_t file_length)
+static void pack_writes(size_t alignment, size_t file_room)
 {
     const uint8_t *file = byte_space + GUARD + alignment;
-    expect(pack(5, U_ROW, ROW, alignment, file_length) == U5_BYTES, "pack", "U5 returns 42");
+    expect(pack(5, U_ROW, ROW, alignment, file_room) == U5_BYTES, "pack", "U5 returns 42");
     expect(memcmp(file, U5, U5_BYTES) == 0, "pack", "U5's bytes");
     expect(bytes_kept_but(file, U5_BYTES), "pack", "it writes the file and no other byte");
 }
@@ -264,42 +264,42 @@ static void packing(size_t a)
     pack_gives(320001, U_ROW, ROW - 1, a, BYTES, SHAHFUREEL_ROWS_INVALID, "18 numbers are 12, before 5");
     pack_gives(5, many, 33 * ROW, a, BYTES, SHAHFUREEL_ROWS_INVALID, "33 rows are 12");
     pack_gives(320001, many, ROW, a, BYTES, SHAHFUREEL_DEMAND_OUT_OF_RANGE, "a demand of 320,001 is 5, before 9");
-    pack_damaged(a, 10, 5, SHAHFUREEL_ZONE_COUNT_INVALID, "five zones are 7");
-    pack_damaged(a, 18, 1, SHAHFUREEL_ZONE_COUNT_INVALID, "an unused edge is 7");
-    pack_damaged(a, 0, 1000000001, SHAHFUREEL_COEFFICIENT_OUT_OF_RANGE, "c0 above 1,000,000,000 is 8");
-    pack_damaged(a, 1, 10000001, SHAHFUREEL_COEFFICIENT_OUT_OF_RANGE, "c1 above 10,000,000 is 8");
-    pack_damaged(a, 2, 1001, SHAHFUREEL_COEFFICIENT_OUT_OF_RANGE, "c2 above 1,000 is 8");
-    pack_damaged(a, 3, 5001, SHAHFUREEL_COEFFICIENT_OUT_OF_RANGE, "b above 5,000 is 8");
-    pack_damaged(a, 2, 65536 + 1000, SHAHFUREEL_COEFFICIENT_OUT_OF_RANGE, "a number is not cut to 16 bits");
-    pack_damaged(a, 4, 0, SHAHFUREEL_LIMITS_INVALID, "a least output of 0 is 9");
-    pack_damaged(a, 11, 2, SHAHFUREEL_LIMITS_INVALID, "a lower edge at the least output is 9");
-    pack_damaged(a, 6, 10001, SHAHFUREEL_RAMP_OR_MARK_OUT_OF_RANGE, "a previous output above 10,000 is 10");
-    pack_damaged(a, 9, 2, SHAHFUREEL_RAMP_OR_MARK_OUT_OF_RANGE, "a mark of 2 is 10");
+    pack_damaged(a, SHAHFUREEL_ROW_ZONES, 5, SHAHFUREEL_ZONE_COUNT_INVALID, "five zones are 7");
+    pack_damaged(a, SHAHFUREEL_ROW_EDGES + 7, 1, SHAHFUREEL_ZONE_COUNT_INVALID, "an unused edge is 7");
+    pack_damaged(a, SHAHFUREEL_ROW_C0, 1000000001, SHAHFUREEL_COEFFICIENT_OUT_OF_RANGE, "c0 above 1,000,000,000 is 8");
+    pack_damaged(a, SHAHFUREEL_ROW_C1, 10000001, SHAHFUREEL_COEFFICIENT_OUT_OF_RANGE, "c1 above 10,000,000 is 8");
+    pack_damaged(a, SHAHFUREEL_ROW_C2, 1001, SHAHFUREEL_COEFFICIENT_OUT_OF_RANGE, "c2 above 1,000 is 8");
+    pack_damaged(a, SHAHFUREEL_ROW_B, 5001, SHAHFUREEL_COEFFICIENT_OUT_OF_RANGE, "b above 5,000 is 8");
+    pack_damaged(a, SHAHFUREEL_ROW_C2, 65536 + 1000, SHAHFUREEL_COEFFICIENT_OUT_OF_RANGE, "a number is not cut to 16 bits");
+    pack_damaged(a, SHAHFUREEL_ROW_LEAST, 0, SHAHFUREEL_LIMITS_INVALID, "a least output of 0 is 9");
+    pack_damaged(a, SHAHFUREEL_ROW_EDGES, 2, SHAHFUREEL_LIMITS_INVALID, "a lower edge at the least output is 9");
+    pack_damaged(a, SHAHFUREEL_ROW_PREVIOUS, 10001, SHAHFUREEL_RAMP_OR_MARK_OUT_OF_RANGE, "a previous output above 10,000 is 10");
+    pack_damaged(a, SHAHFUREEL_ROW_MUST_RUN, 2, SHAHFUREEL_RAMP_OR_MARK_OUT_OF_RANGE, "a mark of 2 is 10");
     pack_gives(5, U_ROW, ROW, a, 0, SHAHFUREEL_FILE_BUFFER_TOO_SHORT, "a buffer of no byte is 13");
     pack_gives(5, U_ROW, ROW, a, U5_BYTES - 1, SHAHFUREEL_FILE_BUFFER_TOO_SHORT, "a buffer of 41 bytes is 13");
 }
 
 /* ---- unpacking */
 
-static uint32_t unpack(const uint8_t *from, size_t file_length, size_t alignment, size_t rows_length, size_t answers_length)
+static uint32_t unpack(const uint8_t *from, size_t file_length, size_t alignment, size_t rows_room, size_t answers_room)
 {
     fill();
     uint8_t *file = copy_of(from, file_length, alignment);
-    uint32_t number = shahfureel_unpack(file, file_length, numbers, rows_length, answers, answers_length);
+    uint32_t number = shahfureel_unpack(file, file_length, numbers, rows_room, answers, answers_room);
     release("unpack", file, from, file_length, alignment);
     return number;
 }
 
-static void unpack_gives(const uint8_t *file, size_t file_length, size_t alignment, size_t rows_length, size_t answers_length,
+static void unpack_gives(const uint8_t *file, size_t file_length, size_t alignment, size_t rows_room, size_t answers_room,
                          uint32_t number, const char *what)
 {
-    expect(unpack(file, file_length, alignment, rows_length, answers_length) == number, "unpack", what);
+    expect(unpack(file, file_length, alignment, rows_room, answers_room) == number, "unpack", what);
     expect(all_kept(), "unpack", "a refusal changes nothing");
 }
 
-static void unpack_reads(const uint8_t *file, size_t alignment, size_t answers_length, int64_t demand)
+static void unpack_reads(const uint8_t *file, size_t alignment, size_t answers_room, int64_t demand)
 {
-    expect(unpack(file, U5_BYTES, alignment, NUMBERS, answers_length) == 0, "unpack", "U5 returns 0");
+    expect(unpack(file, U5_BYTES, alignment, NUMBERS, answers_room) == 0, "unpack", "U5 returns 0");
     expect(memcmp(numbers, U_ROW, sizeof U_ROW) == 0 && numbers_kept_but(ROW), "unpack", "it writes U's row and no other number");
     expect(answers[0] == demand && answers[1] == 1 && answers_kept_but(2), "unpack", "demand and count");
 }
@@ -319,8 +319,163 @@ static void unpacking(size_t a)
         unpack_gives(u5_but(damaged[i].at, damaged[i].value), U5_BYTES, a, 608, 2, damaged[i].number, damaged[i].what);
 }
 
+/* ---- the header's names and advice */
+
+/* A row whose numbers all differ and fill their fields, and its case file: demand 0x0403 */
+enum { V_BYTES = 54 };
+
+static const uint8_t V[V_BYTES] = {0x00, 0x01, 0x00, 0x01, 0x00, 0x00, 0x04, 0x03, 0x00, 0x0C, 0x00, 0x2A, 0x3A, 0x0B,
+                                   0x0C, 0x0D, 0x00, 0x97, 0x0E, 0x0F, 0x03, 0x21, 0x13, 0x22, 0x01, 0x02, 0x26, 0x23,
+                                   0x0A, 0x14, 0x1C, 0x15, 0x1D, 0x16, 0x00, 0x01, 0x00, 0x04, 0x02, 0x31, 0x03, 0x32,
+                                   0x04, 0x33, 0x05, 0x34, 0x06, 0x35, 0x07, 0x36, 0x08, 0x37, 0x09, 0x38};
+
+static void build_v(uint32_t *row)
+{
+    row[SHAHFUREEL_ROW_C0] = 0x3A0B0C0D;
+    row[SHAHFUREEL_ROW_C1] = 0x970E0F;
+    row[SHAHFUREEL_ROW_C2] = 0x321;
+    row[SHAHFUREEL_ROW_B] = 0x1322;
+    row[SHAHFUREEL_ROW_LEAST] = 0x102;
+    row[SHAHFUREEL_ROW_GREATEST] = 0x2623;
+    row[SHAHFUREEL_ROW_PREVIOUS] = 0xA14;
+    row[SHAHFUREEL_ROW_UP] = 0x1C15;
+    row[SHAHFUREEL_ROW_DOWN] = 0x1D16;
+    row[SHAHFUREEL_ROW_MUST_RUN] = 1;
+    row[SHAHFUREEL_ROW_ZONES] = 4;
+    for (uint32_t k = 0; k < 4; k++) {
+        row[SHAHFUREEL_ROW_EDGES + 2 * k] = 0x231 + 0x202 * k;
+        row[SHAHFUREEL_ROW_EDGES + 2 * k + 1] = 0x332 + 0x202 * k;
+    }
+}
+
+static void build_u(uint32_t *row)
+{
+    memset(row, 0, SHAHFUREEL_ROW_NUMBERS * sizeof row[0]);
+    row[SHAHFUREEL_ROW_C1] = 10000;
+    row[SHAHFUREEL_ROW_C2] = 1000;
+    row[SHAHFUREEL_ROW_LEAST] = 2;
+    row[SHAHFUREEL_ROW_GREATEST] = 10;
+    row[SHAHFUREEL_ROW_ZONES] = 1;
+    row[SHAHFUREEL_ROW_EDGES] = 4;
+    row[SHAHFUREEL_ROW_EDGES + 1] = 7;
+}
+
+static void sizes_named(void)
+{
+    expect(SHAHFUREEL_FILE_BYTES_MAX == BYTES && SHAHFUREEL_ROWS_NUMBERS == NUMBERS, "names", "1,480 bytes, 608 numbers");
+    expect(SHAHFUREEL_ROW_NUMBERS == ROW && SHAHFUREEL_ROW_EDGES + 8 == ROW, "names", "19 numbers, the last 8 of them edges");
+    expect(SHAHFUREEL_REPLY_BYTES == 92 && SHAHFUREEL_ANSWERS == 2, "names", "92 bytes, 2 answers");
+    expect(SHAHFUREEL_UNITS_MAX == 32 && SHAHFUREEL_DEMAND_MAX == 320000, "names", "32 units, 320,000 steps");
+    expect(SHAHFUREEL_MULTIPLIER_MAX == 65536 && SHAHFUREEL_LENGTH_MIN == sizeof U5_REPLY, "names", "65,536, 30");
+    expect(SHAHFUREEL_REPLY_OUTPUTS_AT == SHAHFUREEL_REPLY_OUTPUTS, "names", "the former name of the outputs' place");
+}
+
+static void rows_named(void)
+{
+    uint32_t row[SHAHFUREEL_ROW_NUMBERS];
+    build_u(row);
+    expect(memcmp(row, U_ROW, sizeof row) == 0, "names", "U's row by names");
+    expect(pack(5, row, SHAHFUREEL_ROW_NUMBERS, 0, BYTES) == U5_BYTES && memcmp(byte_space + GUARD, U5, U5_BYTES) == 0, "names",
+           "a row by names packs to U5");
+    build_v(row);
+    expect(pack(0x403, row, SHAHFUREEL_ROW_NUMBERS, 0, BYTES) == V_BYTES && memcmp(byte_space + GUARD, V, V_BYTES) == 0, "names",
+           "a row by names packs to V");
+    expect(unpack(V, V_BYTES, 0, NUMBERS, SHAHFUREEL_ANSWERS) == 0 && memcmp(numbers, row, sizeof row) == 0, "names",
+           "V unpacks to the row by names");
+}
+
+/* 32 times V: the longest file and the longest reply */
+static void longest_named(void)
+{
+    static uint32_t rows[SHAHFUREEL_ROWS_NUMBERS];
+    uint8_t file[SHAHFUREEL_FILE_BYTES_MAX];
+    uint8_t reply[SHAHFUREEL_REPLY_BYTES];
+    for (uint32_t i = 0; i < SHAHFUREEL_UNITS_MAX; i++)
+        build_v(rows + SHAHFUREEL_ROW_NUMBERS * i);
+    pack_gives(0, rows, sizeof rows / sizeof rows[0], 0, BYTES - 1, SHAHFUREEL_FILE_BUFFER_TOO_SHORT, "1,479 bytes are 13");
+    expect(shahfureel_pack(0, rows, sizeof rows / sizeof rows[0], file, sizeof file) == sizeof file, "names", "1,480 bytes");
+    expect(shahfureel_dispatch(file, sizeof file, reply, sizeof reply) == sizeof reply, "names", "a reply of 92 bytes");
+    expect(shahfureel_reply_count(reply) == SHAHFUREEL_UNITS_MAX, "names", "32 units");
+    for (uint32_t i = 0; i < SHAHFUREEL_UNITS_MAX; i++)
+        expect(shahfureel_reply_output(reply, i) == 0x102, "names", "each gives its least output");
+}
+
+static void replies_named(void)
+{
+    uint8_t rising[32];
+    for (size_t i = 0; i < sizeof rising; i++)
+        rising[i] = (uint8_t)(0xE1 + i);
+    expect(shahfureel_reply_count(rising) == 0xE1E2, "names", "count");
+    expect(shahfureel_reply_evaluations(rising) == 0xE3E4, "names", "evaluations");
+    expect(shahfureel_reply_cost(rising) == UINT64_C(0xE5E6E7E8E9EAEBEC), "names", "cost");
+    expect(shahfureel_reply_gap(rising) == UINT64_C(0xEDEEEFF0F1F2F3F4), "names", "gap");
+    expect(shahfureel_reply_surplus(rising) == UINT64_C(0xF5F6F7F8F9FAFBFC), "names", "surplus");
+    expect(shahfureel_reply_output(rising, 0) == 0xFDFE && shahfureel_reply_output(rising, 1) == 0xFF00, "names", "outputs");
+
+    uint8_t reply[SHAHFUREEL_REPLY_BYTES];
+    expect(shahfureel_dispatch(U5, sizeof U5, reply, sizeof reply) == sizeof U5_REPLY, "names", "U5 returns 30");
+    expect(shahfureel_reply_count(reply) == 1 && shahfureel_reply_evaluations(reply) == 18, "names", "U5: 1 unit, 18 evaluations");
+    expect(shahfureel_reply_cost(reply) == 119000 && shahfureel_reply_gap(reply) == 42000, "names", "U5: cost and gap");
+    expect(shahfureel_reply_surplus(reply) == 200000000 && shahfureel_reply_output(reply, 0) == 7, "names", "U5: surplus, output");
+    expect(shahfureel_big_endian(reply + SHAHFUREEL_REPLY_COUNT, 2) == 1 && reply[SHAHFUREEL_REPLY_EVALUATIONS + 1] == 18 &&
+               shahfureel_big_endian(reply + SHAHFUREEL_REPLY_COST, 8) == 119000 &&
+               shahfureel_big_endian(reply + SHAHFUREEL_REPLY_GAP, 8) == 42000 &&
+               shahfureel_big_endian(reply + SHAHFUREEL_REPLY_SURPLUS, 8) == 200000000 &&
+               shahfureel_big_endian(reply + SHAHFUREEL_REPLY_OUTPUTS, 2) == 7,
+           "names", "U5's fields by their places");
+}
+
+/* what a row's unit gives alone at a demand, or the refusal */
+static uint32_t given(uint32_t demand, const uint32_t *row)
+{
+    uint8_t file[SHAHFUREEL_FILE_BYTES_MAX];
+    uint8_t reply[SHAHFUREEL_REPLY_BYTES];
+    uint32_t length = shahfureel_pack(demand, row, SHAHFUREEL_ROW_NUMBERS, file, sizeof file);
+    if (length < SHAHFUREEL_LENGTH_MIN)
+        return length;
+    uint32_t answer = shahfureel_dispatch(file, length, reply, sizeof reply);
+    return answer < SHAHFUREEL_LENGTH_MIN ? answer : shahfureel_reply_output(reply, 0);
+}
+
+/* what the header says of ramp limits, of refusal 11 and of refusals 7 to 10. Outputs are above 14: no refusal has their number. */
+static void advice(void)
+{
+    uint32_t row[SHAHFUREEL_ROW_NUMBERS] = {0};
+    row[SHAHFUREEL_ROW_C2] = 1000;
+    row[SHAHFUREEL_ROW_LEAST] = 100;
+    row[SHAHFUREEL_ROW_GREATEST] = 10000;
+    row[SHAHFUREEL_ROW_MUST_RUN] = 1;
+    expect(given(9000, row) == 9000, "advice", "previous 0: up and down are ignored");
+    row[SHAHFUREEL_ROW_PREVIOUS] = 500;
+    expect(given(0, row) == 500 && given(500, row) == 500 && given(501, row) == 11, "advice", "0: the set may not move");
+    row[SHAHFUREEL_ROW_UP] = SHAHFUREEL_RAMP_UNLIMITED;
+    expect(given(0, row) == 500 && given(10000, row) == 10000, "advice", "10,000 up: no limit that way");
+    row[SHAHFUREEL_ROW_DOWN] = SHAHFUREEL_RAMP_UNLIMITED;
+    expect(given(0, row) == 100 && given(10000, row) == 10000, "advice", "10,000: no limit");
+    expect(given(10001, row) == 11 && given(0, row) != 11, "advice", "too little: demand 0 is answered");
+
+    row[SHAHFUREEL_ROW_PREVIOUS] = 50;
+    row[SHAHFUREEL_ROW_UP] = 49;
+    expect(given(100, row) == 11 && given(0, row) == 11, "advice", "a stuck must-run set: 11 also at demand 0");
+    row[SHAHFUREEL_ROW_MUST_RUN] = 0;
+    expect(given(100, row) == 11 && given(0, row) == 0, "advice", "a set that may stand is not stuck");
+
+    uint32_t rows[2 * SHAHFUREEL_ROW_NUMBERS];
+    build_u(rows);
+    build_u(rows + SHAHFUREEL_ROW_NUMBERS);
+    rows[SHAHFUREEL_ROW_NUMBERS + SHAHFUREEL_ROW_GREATEST] = 2;
+    pack_gives(5, rows, sizeof rows / sizeof rows[0], 0, BYTES, SHAHFUREEL_LIMITS_INVALID, "a bad second row is 9");
+    expect(pack(0, rows, SHAHFUREEL_ROW_NUMBERS, 0, BYTES) == U5_BYTES, "advice", "the first row alone packs");
+    pack_gives(0, rows + SHAHFUREEL_ROW_NUMBERS, SHAHFUREEL_ROW_NUMBERS, 0, BYTES, SHAHFUREEL_LIMITS_INVALID, "the second is 9");
+}
+
 int main(void)
 {
+    sizes_named();
+    rows_named();
+    longest_named();
+    replies_named();
+    advice();
     for (size_t alignment = 1; alignment <= ALIGNMENTS; alignment++) {
         dispatching(alignment);
         pricing(alignment);
