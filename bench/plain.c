@@ -1,4 +1,4 @@
-/* A plain C program of document 01's dispatch, from file bytes to reply bytes: what the controller is measured against.
+/* A plain C program of the specification's dispatch, from file bytes to reply bytes: what the controller is measured against.
  * It checks and decodes each unit once, finds its permitted outputs once as regions, and makes one division a unit and
  * evaluation. It is tested, not proved. */
 #include "plain.h"

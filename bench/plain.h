@@ -1,4 +1,4 @@
-/* The plain C program of document 01's dispatch, as the benchmark calls it. */
+/* The plain C program of the specification's dispatch, as the benchmark calls it. */
 #ifndef PLAIN_H
 #define PLAIN_H
 

@@ -1,4 +1,4 @@
-//! The four calls of document 01, with their inputs and the size of the buffer that is lent.
+//! The four calls of the specification, with their inputs and the size of the buffer that is lent.
 
 #[derive(Clone, Debug)]
 pub enum Call {

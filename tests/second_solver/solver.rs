@@ -1,4 +1,4 @@
-//! Document 01 as a plain solver: a unit's choice is found by trying every output, and every number has 128 bits.
+//! The specification as a plain solver: a unit's choice is found by trying every output, and every number has 128 bits.
 
 pub const GREATEST_MULTIPLIER: i128 = 65_536;
 pub const NET_OF_A_STEP: i128 = 100_000_000;

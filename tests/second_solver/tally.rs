@@ -3,7 +3,7 @@
 use crate::calls::NAMES;
 use crate::solver::Refused;
 
-/// The numbers that each call can give by document 01's table of refusals, calls in the order of their indices.
+/// The numbers that each call can give by rule 4.3, calls in the order of their indices.
 pub const POSSIBLE: [&[usize]; 4] = [
     &[1, 2, 3, 4, 5, 6, 7, 8, 9, 10, 11],
     &[2, 3, 4, 5, 6, 7, 8, 9, 10, 11, 14],

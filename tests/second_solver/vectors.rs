@@ -1,13 +1,13 @@
-//! Cases with the numbers that the papers give for them: document 01's table, and vectors that see what the table does not.
+//! Cases with the numbers that are stated for them: the table of rule 17.1, and vectors that see what the table does not.
 
 use crate::hex;
 use crate::solver::{self, Case, Priced, Refused, Reply, Unit};
 
-/// The file of case U5, as document 01 prints it.
+/// The file of case U5 (rule 15.5).
 const U5: &str = "0001000100000005000c001e000000000000271003e800000002000a000000000000000000010004\
                   0007";
 
-/// Unit U of document 01.
+/// Unit U of the specification.
 pub fn u() -> Unit {
     Unit {
         c0: 0,
@@ -33,7 +33,7 @@ pub fn lossy(b: i128) -> Unit {
     Unit { c1: 10_000_000, c2: 1_000, b, least: 9_000, greatest: 10_000, zones: vec![], ..u() }
 }
 
-/// The numbers of a reply that a paper states.
+/// The numbers of a reply that are stated.
 #[derive(Default)]
 pub struct Stated {
     evaluations: Option<i128>,
@@ -65,7 +65,7 @@ fn whole(outputs: Vec<i128>, cost: i128, gap: i128, evaluations: i128, surplus: 
     Stated { evaluations: Some(evaluations), cost: Some(cost), gap: Some(gap), surplus: Some(surplus), outputs }
 }
 
-/// Document 01's table.
+/// The table of rule 17.1.
 pub fn table() -> Vec<Vector> {
     let ramped = |steps: i128| Unit { previous: 5, up: steps, down: steps, ..u_must_run() };
     let with_lower_edge = |edge: i128| Unit { zones: vec![(edge, 7)], ..u() };
@@ -120,15 +120,15 @@ fn covered_by_no_choice(demand: i128, b: i128) -> Vector {
     replied(demand, vec![lossy(b)], stated)
 }
 
-/// Document 01's pricings of U with demand 5.
+/// The pricings of U with demand 5 (rule 17.1).
 const PRICINGS: [(u32, i128); 2] = [(21, 7_700_000_000), (65_536, -32_748_000_000_000)];
 
-/// The multipliers of document 01's pricings.
+/// The multipliers of these pricings.
 pub fn priced_multipliers() -> Vec<u32> {
     PRICINGS.iter().map(|(multiplier, _)| *multiplier).collect()
 }
 
-/// Asserts every number that the papers give; tells how many vectors there are.
+/// Asserts every number that is stated; tells how many vectors there are.
 pub fn check() -> usize {
     let u5 = solver::encode(&Case { demand: 5, units: vec![u()] });
     assert_eq!(hex(&u5), U5, "the file of U5");

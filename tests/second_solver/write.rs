@@ -35,7 +35,7 @@ fn main() {
     files.tally.assert_complete(POSSIBLE);
     std::fs::write(input_path, input(&files.records)).expect(input_path);
     std::fs::write(output_path, output(&files)).expect(output_path);
-    println!("{} vectors as the papers state them", vectors);
+    println!("{} vectors as stated", vectors);
     println!("{} calls, {} dispatches checked by brute force", files.tally.total(), files.promises);
 }
 

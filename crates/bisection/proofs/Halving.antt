@@ -124,7 +124,7 @@ module _ {H : Problem → Type 0} {n : ℕ} {start : code.Found} where
                 evaluations = omega (arith, r .holds .evaluations);
               }
 
-      -- "Equal net: it is the best, stop."
+      -- (rule 11.9) equal net
       pub equal-net : s .net ≡ t → Halves H n start (noted (allocated outputs s) f s)
       equal-net e =
           record {
@@ -136,7 +136,7 @@ module _ {H : Problem → Type 0} {n : ℕ} {start : code.Found} where
                 subst (λ (x : Found (List ℕ)). HoldsFound q x (noted (allocated outputs s) f s)) (sym same ∙ whole q i b g) (noted-holds q i b g (selected (low + 2 ^ j) q) (allocated outputs s) o);
           }
 
-      -- "Covering: it is the best and the new high."
+      -- (rule 11.10) the middle covers
       pub covering : t < s .net → Halving H n start (noted (allocated outputs s) f s) low (width / 2)
       covering e =
           record {
@@ -153,7 +153,7 @@ module _ {H : Problem → Type 0} {n : ℕ} {start : code.Found} where
                 record { best = selected (low + 2 ^ j) q; holds = noted-holds q i b g (selected (low + 2 ^ j) q) (allocated outputs s) o; rest = sym same ∙ whole q i b g };
           }
 
-      -- "Else: the new low."
+      -- (rule 11.11) it does not
       pub uncovered : s .net < t → Halving H n start (noted (f .best) f s) (low + width / 2) (width / 2)
       uncovered e =
           record {

@@ -26,7 +26,7 @@ module _ {H : Problem → Type 0} {n t : ℕ} (demanded : (q : Problem) → H q 
   unfolding greatestAt floor
   floor₀-is q i = ap (λ (z : ℤ). dividedUp z 100000) (v₀ .dual q i)
 
-  -- "2. If its choices cover d, they are the answer; stop."
+  -- (rule 11.4) the choices of 0 cover
   pub step2-stops : (first : code-allocation.Allocation) → t ≤ s₀ .net → Searches H n first (record { best = allocated outputs₀ s₀; floor = floor₀; evaluations = 1 })
   unfolding found
   step2-stops first e =
@@ -52,7 +52,7 @@ module _ {H : Problem → Type 0} {n t : ℕ} (demanded : (q : Problem) → H q 
       twice : (x : List ℕ) (a : code-allocation.Allocation) → HoldsOutputs q x (a .outputs) (sumsOf a) → HoldsFound q (record { best = x; evaluated = 65536 ∷ 0 ∷ [] }) (record { best = a; floor = floor₁; evaluations = 2 })
       twice x a o = record { best = o; floor = floor-more q 65536 0 [] floor₀ (floor₀-is q i) (s .dual) (v .dual q i); evaluations = refl }
 
-    -- "3. If its choices don't cover, stop with the best."
+    -- (rule 11.6) those of 65,536 do not
     pub step3-uncovered : (first : code-allocation.Allocation) → Sized n (sumsOf first) → s .net < t → Searches H n first (record { best = first; floor = floor₁; evaluations = 2 })
     unfolding found
     step3-uncovered first z e =
@@ -64,7 +64,7 @@ module _ {H : Problem → Type 0} {n t : ℕ} (demanded : (q : Problem) → H q 
               subst (λ (x : Found (List ℕ)). HoldsFound q x (record { best = first; floor = floor₁; evaluations = 2 })) (sym same) (twice q i (greatestOutputs q) first g);
         }
 
-    -- "stop if the net equals the demand"
+    -- (rule 11.7) they do, with equal net
     pub step3-stops : (first : code-allocation.Allocation) → s .net ≡ t → Searches H n first (record { best = allocated outputs s; floor = floor₁; evaluations = 2 })
     unfolding found
     step3-stops first e =

@@ -1,4 +1,4 @@
-// The dual bisection of document 01, the reply, and dispatch from a case file's bytes to the reply's.
+// The dual bisection (section 11 of docs/SPECIFICATION.md), the reply, and dispatch from a case file's bytes to the reply's.
 mod dispatching;
 mod reply;
 mod search;

@@ -1,4 +1,4 @@
-// The search of document 01, steps 2 to 4, over a decoded site.
+// The search, steps 2 to 4 (rules 11.3 to 11.11), over a decoded site.
 ghost use mathlib.Core.Path.{_≡_};
 ghost use mathlib.Core.Bool.{cond};
 ghost use Prim.Native.Nat.{_≤_};

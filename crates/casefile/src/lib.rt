@@ -1,4 +1,4 @@
-// Case files, as document 01 lays them out: checking one, and reading one that is accepted.
+// Case files, as section 2 of docs/SPECIFICATION.md lays them out: checking one, and reading one that is accepted.
 // A caller that decodes a file checks it place by place, and reads each body once.
 // What each function answers is equated with the definitions of crate `rules`.
 mod accepted;

@@ -1,4 +1,4 @@
--- Document 01: "All fields are unsigned, most significant byte first, …": a field is a big-endian number.
+-- Rule 1.2 of docs/SPECIFICATION.md: a field is an unsigned big-endian number.
 -- Everything is over the width w in bytes: 2, 4 and 8 are the widths in use.
 use Prim.Native.Nat.{ℕ, zero, suc, _+_, _*_, _/_, _%_, _<_}
 use mathlib.Core.List.{List, [], _∷_, _++_}

@@ -1,5 +1,5 @@
 // The panel's four calls, as C sees them: a slice is a pointer and then a length, an answer is a number. Each does what the call
-// on slices does and tells its answer in document 01's numbers. `include/shahfureel.h` declares them.
+// on slices does and tells its answer in numbers (rules 14.1 to 14.4). `include/shahfureel.h` declares them.
 ghost use mathlib.Core.Path.{_≡_};
 ghost use mathlib.Core.Bool.{cond};
 ghost use lib.IntN.{pos};

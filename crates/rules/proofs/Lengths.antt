@@ -1,4 +1,4 @@
--- "Every length is at least 30, every number below it": a C caller can tell the two apart. And no length is above 92, or 1,480 of a file.
+-- (rule 14.2) Lengths are 30 or more and numbers are less: a C caller can tell the two apart. And no length is above 92, or 1,480 of a file.
 use mathlib.Core.Path.{_≡_, refl}
 use mathlib.Core.List.{List, [], _∷_}
 use Prim.Native.Nat.{ℕ, _*_, _≤_, _<_}

@@ -1,4 +1,4 @@
--- Document 01, "Choice, floor, bisection", steps 1 to 4: dual bisection. Steps 2 to 4 ask of an allocation only its net, so they are stated over any type of allocations.
+-- Rules 11.1 to 11.14 of docs/SPECIFICATION.md: the search (dual bisection) and what the reply states of it. Steps 2 to 4 ask of an allocation only its net, so they are stated over any type of allocations.
 use Prim.Native.Nat.{ℕ, zero, suc, _+_, _-_, _/_, _^_}
 use mathlib.Core.Bool.{Bool, cond, _&&_}
 use mathlib.Core.List.{List, [], _∷_, map}
@@ -17,7 +17,7 @@ pub record Found (X : Type 0) : Type 0 where
 
 -- `choose m` is the allocation that the evaluation of m takes; an allocation covers if its net is at least `target`
 module _ {X : Type 0} (choose : ℕ → X) (net : X → ℕ) (target : ℕ) where
-  -- "4. With low 0 and high 65,536, halve until high − low is 1: evaluate the middle (low + high) / 2. Equal net: it is the best, stop. Covering: it is the best and the new high. Else: the new low."
+  -- (rules 11.8 to 11.11) step 4: the middle of low and high is evaluated. Net equal to the target: the best, and the end. More: the best, and the lower half is left. Less: the upper half is left.
   -- high − low is 2 ^ k: it starts at 2 ^ 16, and half of 2 ^ (k + 1) is 2 ^ k.
   unfoldable pub step4 : ℕ → ℕ → X → List ℕ → Found X
   step4 zero low best seen = record { best = best; evaluated = seen }
@@ -30,7 +30,7 @@ module _ {X : Type 0} (choose : ℕ → X) (net : X → ℕ) (target : ℕ) wher
       let ended : Found X = record { best = x; evaluated = middle ∷ seen } in
       cond (eqb (net x) target) ended (cond (leb target (net x)) lower-half upper-half)
 
-  -- "3. Evaluate 65,536. If its choices don't cover, stop with the best. If they do, they are the best; stop if the net equals the demand."
+  -- (rules 11.5 to 11.7) step 3: 65,536. Without cover it ends with the first best; with a net equal to the target, with its own choices; else step 4 goes on from them.
   unfoldable pub step3 : X → Found X
   step3 first =
       let x = choose 65536 in
@@ -40,7 +40,7 @@ module _ {X : Type 0} (choose : ℕ → X) (net : X → ℕ) (target : ℕ) wher
       let uncovered : Found X = record { best = first; evaluated = seen } in
       cond (leb target (net x)) (cond (eqb (net x) target) ended halved) uncovered
 
-  -- the whole search, from step 2 on: "2. Evaluate 0. If its choices cover d, they are the answer; stop."
+  -- (rules 11.3, 11.4) the whole search, from step 2 on: 0. Where its choices cover, they are the best and the end.
   unfoldable pub search : X → Found X
   search first =
       let x = choose 0 in
@@ -54,7 +54,7 @@ module _ {X : Type 0} (choose : ℕ → X) (net : X → ℕ) (target : ℕ) wher
 unfoldable pub greatestOutputs : Problem → List ℕ
 greatestOutputs q = map (λ o. greatest (o .outputs)) (q .offers)
 
--- "1. If some unit has no permitted output, or the greatest permitted outputs don't cover d, refuse with 11. Otherwise they are the first best."
+-- (rules 11.1, 11.2) step 1: every unit has an output, and the greatest ones together cover. Where they do they are the first best, else the number is 11.
 unfoldable pub solvable : Problem → Bool
 solvable q =
     all (λ o. ltb 0 (length (o .outputs))) (q .offers) && covers (q .demand) (totalNet (unitsOf q) (greatestOutputs q))
@@ -62,7 +62,7 @@ solvable q =
 unfoldable pub found : Problem → Found (List ℕ)
 found q = search (λ m. selected m q) (totalNet (unitsOf q)) (target q) (greatestOutputs q)
 
--- ---- "Gap = cost of the best − the greatest floor evaluated. Surplus = net of the best − 100,000,000 × d. Evaluations = 1 if step 2 stops, 2 if step 3 stops, else 2 + the number of middles evaluated in step 4, …"
+-- ---- (rules 11.12 to 11.14) what the reply states of the best: the gap to the greatest floor of all evaluations, the surplus over the target, and how many evaluations there were.
 -- Gap is the duality gap, as an amount; surplus the slack of the power balance. (Neither is ever negative: see `Promise`.)
 
 pub record Reply : Type 0 where

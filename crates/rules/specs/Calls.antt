@@ -1,4 +1,4 @@
--- Document 01, "The reply" and "What each contract says": for each public call, on every input, its answer and the final contents of every buffer that it was lent.
+-- Rules 12.1 to 14.4 of docs/SPECIFICATION.md, and the order of checks of each call (rule 4.3): for each public call, on every input, its answer and the final contents of every buffer that it was lent.
 -- A refusal leaves each buffer as it was; otherwise the call's output stands at the buffer's start, and the rest is untouched.
 use Prim.Native.Nat.{ℕ, _+_, _*_, _%_}
 use mathlib.Core.Bool.{cond, not, _||_}
@@ -28,14 +28,14 @@ use Rattle.rules.specs.declared.Priced.{Priced}
 use Rattle.rules.specs.declared.Packed.{Packed}
 use Rattle.rules.specs.declared.Unpacked.{Unpacked}
 
--- ---- the case: what dispatch and pricing ask of the file, its checks and then step 1
+-- ---- the case: what dispatch and pricing ask of the file, its checks and then step 1 (rule 11.1)
 
 unfoldable pub caseVerdict : List ℕ → Verdict
 caseVerdict file = fileVerdict file then not (solvable (problemIn file)) refuses NoAllocation
 
--- ---- dispatch
+-- ---- dispatch (rule 13.2)
 
--- "n (16 bits), evaluations (16), cost (64), gap (64), surplus (64), and from byte 28 the n outputs, 16 bits each"
+-- (rule 12.1) the reply: count and evaluations in 2 bytes each, cost, gap and surplus in 8 each, and behind these 28 bytes the outputs in 2 each
 unfoldable pub replyBytes : Reply → List ℕ
 replyBytes r =
     bytes 2 (length (r .outputs)) ++ bytes 2 (r .evaluations) ++ bytes 8 (r .cost) ++ bytes 8 (r .gap) ++ bytes 8 (r .surplus)
@@ -57,7 +57,7 @@ dispatchEnds Verdict.Accepted file reply =
 unfoldable pub dispatched : List ℕ → List ℕ → DispatchResult
 dispatched file reply = dispatchEnds (dispatchVerdict file reply) file reply
 
--- ---- pricing: "takes a file and an m and returns the dual value and whether the choices cover d; it runs step 1 first"
+-- ---- pricing (rule 13.3): step 1 is among its checks; it values m, and tells whether the choices of m cover
 
 unfoldable pub priceVerdict : List ℕ → ℕ → Verdict
 priceVerdict file m = ltb 65536 m refuses MultiplierOutOfRange then caseVerdict file
@@ -71,7 +71,7 @@ priceEnds Verdict.Accepted file m =
 unfoldable pub priced : List ℕ → ℕ → Priced
 priced file m = priceEnds (priceVerdict file m) file m
 
--- ---- packing: "takes the demand and rows, and returns the file's length"
+-- ---- packing (rule 13.4): a demand and rows become a file
 
 pub record PackResult : Type 0 where
   pub answer : Packed
@@ -97,7 +97,7 @@ packEnds Verdict.Accepted d rows file =
 unfoldable pub packed : ℕ → List ℕ → List ℕ → PackResult
 packed d rows file = packEnds (packVerdict d rows file) d rows file
 
--- ---- unpacking: "returns the demand and count, and writes n rows"
+-- ---- unpacking (rule 13.5): a file becomes rows, a demand and a count
 
 pub record UnpackResult : Type 0 where
   pub answer : Unpacked
@@ -115,7 +115,7 @@ unpackEnds Verdict.Accepted file rows =
 unfoldable pub unpacked : List ℕ → List ℕ → UnpackResult
 unpacked file rows = unpackEnds (unpackVerdict file rows) file rows
 
--- ---- the panel's calls, in C, and the number and values of each answer: "There dispatch and packing return the length or the refusal number …. Pricing and unpacking write their two answers into the start of a lent list of signed 64-bit numbers … and return 0, or a refusal number; a list under two numbers is 1, in pricing after 14."
+-- ---- the panel's calls, in C (rules 14.1 to 14.4), and the number and values of each answer: of dispatch and packing a length or a refusal's number; of pricing and unpacking 0 or a refusal's number, and two answers in a lent list, which has room for them or is refused with 1
 
 abbrev pub numberOfDispatched : Dispatched → ℕ
 numberOfDispatched (Dispatched.Replied n) = n

@@ -1,4 +1,4 @@
--- Document 01, "The case file": the planner's row and the file's body that spell a unit, and the whole file. Fields are big-endian (`fields`).
+-- Rules 2.1 to 3.2 of docs/SPECIFICATION.md: the planner's row and the file's body that spell a unit, and the whole file. Fields are big-endian (`fields`).
 use Prim.Native.Nat.{ℕ, _+_, _*_, _/_}
 use mathlib.Core.Bool.{cond}
 use mathlib.Core.List.{List, [], _∷_, _++_, map}
@@ -8,7 +8,7 @@ use Rattle.fields.specs.Field.{field, bytes, bytesOfEach}
 use Rattle.rules.specs.Lists.{each, sum}
 use Rattle.rules.specs.Unit.{Unit}
 
--- ---- "The planner's rows are a lent list of 32-bit numbers, 19 to a unit: the eleven numbers before the edges in body order, then four pairs of edges, zero where unused."
+-- ---- (rules 3.1, 3.2) a row: the eleven numbers of a body before its edges, in the same order, then eight edges, of which the unused are zero
 
 unfoldable pub unitOfRow : List ℕ → Unit
 unitOfRow row =
@@ -45,7 +45,7 @@ unfoldable pub rowsOfUnits : List Unit → List ℕ
 rowsOfUnits [] = []
 rowsOfUnits (u ∷ us) = rowOfUnit u ++ rowsOfUnits us
 
--- ---- a body: the table "at, bits, field"
+-- ---- a body: the table of rule 2.6
 
 -- edge k of a body with z zones; the unused ones are zero
 unfoldable pub edgeOfBody : List ℕ → ℕ → ℕ → ℕ
@@ -68,7 +68,7 @@ unitOfBody body =
       edges = each 8 (edgeOfBody body (field body 24 2));
     }
 
--- "the length is 26 + 4z"
+-- (rule 2.7) how long a body with z zones is
 abbrev pub bodyLength : ℕ → ℕ
 bodyLength z = 26 + 4 * z
 
@@ -78,7 +78,7 @@ bodyOfUnit u =
     ++ bytes 2 (u .previous) ++ bytes 2 (u .up) ++ bytes 2 (u .down) ++ bytes 2 (u .mark) ++ bytes 2 (u .zoneCount)
     ++ bytesOfEach 2 (take (2 * u .zoneCount) (u .edges))
 
--- ---- the file: "Head, 8 bytes: edition (16 bits, …), unit count n (16 bits, …), demand d (32 bits, …). … Contents: n entries of offset and length, 16 bits each." Contents is the file's directory.
+-- ---- the file (rules 2.2 to 2.4): a head of 8 bytes, the contents (the file's directory: 4 bytes to a unit), the bodies
 
 abbrev pub edition : List ℕ → ℕ
 edition file = field file 0 2
@@ -96,7 +96,7 @@ offset file i = field file (8 + 4 * i) 2
 abbrev pub size : List ℕ → ℕ → ℕ
 size file i = field file (10 + 4 * i) 2
 
--- "A body is read as the part of the file that its entry names."
+-- (rule 2.6) the body of unit i: the bytes from its offset on, as many as its length says
 abbrev pub body : List ℕ → ℕ → List ℕ
 body file i = take (size file i) (drop (offset file i) file)
 

@@ -1,4 +1,4 @@
--- The few functions on lists that document 01's sentences need.
+-- The few functions on lists that the rules need; `over` is rule 13.6 of docs/SPECIFICATION.md.
 use Prim.Native.Nat.{ℕ, zero, suc, _+_, max}
 use mathlib.Core.Bool.{Bool, true, cond, _&&_}
 use mathlib.Core.List.{List, [], _∷_, _++_}

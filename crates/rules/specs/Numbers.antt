@@ -1,4 +1,4 @@
--- The few functions on signed numbers that document 01's sentences need.
+-- The few functions on signed numbers that the rules need; `dividedUp` is the rounding of rule 10.2 of docs/SPECIFICATION.md, `greatestAt` the greatest floor of rule 11.12.
 use Prim.Native.Nat.{ℕ, suc, _+_, _-_, _/_}
 use mathlib.Core.Bool.{cond}
 use mathlib.Core.List.{List, [], _∷_}

@@ -1,4 +1,4 @@
--- Units together: document 01's allocation, its cost and net; and the dispatch problem, a demand and what each unit may be given.
+-- Rules 8.1 to 8.4 of docs/SPECIFICATION.md. Units together: an allocation, its cost and net; and the dispatch problem, a demand and what each unit may be given.
 -- Slots of a day, nodes of a search and other demands are problems too; a case is one of them.
 use Prim.Native.Nat.{ℕ, suc, _+_, _*_}
 use mathlib.Core.Bool.{Bool, true, false, _&&_}
@@ -8,7 +8,7 @@ use Rattle.rules.specs.Lists.{each, filter}
 use Rattle.rules.specs.Unit.{Unit, permitted, cost, net}
 use Rattle.rules.specs.Layout.{Case, caseOf}
 
--- ---- An allocation is a dispatch of the units, whether it covers or not. "An allocation gives each unit a permitted output. Its cost is the sum of the units' costs, its net the sum of their nets."
+-- ---- (rules 8.1, 8.2) An allocation is a dispatch of the units, whether it covers or not: a permitted output for each. Cost and net are sums over the units.
 
 unfoldable pub allocation : List Unit → List ℕ → Bool
 allocation [] [] = true
@@ -26,11 +26,11 @@ totalNet [] ps = 0
 totalNet (u ∷ us) [] = 0
 totalNet (u ∷ us) (p ∷ ps) = net u p + totalNet us ps
 
--- the power balance as an inequality: "it covers d, after losses, if its net is at least 100,000,000 × d"
+-- (rule 8.3) the power balance as an inequality: a net covers d steps, after losses
 abbrev pub covers : ℕ → ℕ → Bool
 covers d n = leb (100000000 * d) n
 
--- ---- An offer is a unit with its feasible set, the outputs that it may be given; a problem is a demand and offers. A case is the problem where each unit offers all its permitted outputs.
+-- ---- (rule 8.4) An offer is a unit with its feasible set, the outputs that it may be given; a problem is a demand and offers. A case is the problem where each unit offers all its permitted outputs.
 
 pub record Offer : Type 0 where
   pub unit : Unit

@@ -1,4 +1,4 @@
--- Demand 3, sentence by sentence, of a case file's bytes and of what dispatch answers and leaves in the reply. Of the code's types it names only the answer's enum.
+-- Demand 3, rules 16.8 to 16.14 of docs/SPECIFICATION.md, of a case file's bytes and of what dispatch answers and leaves in the reply. Of the code's types it names only the answer's enum.
 use Prim.Native.Nat.{ℕ, _+_, _*_, _≤_}
 use mathlib.Core.Bool.{true}
 use mathlib.Core.List.{List}
@@ -37,43 +37,43 @@ Permitted c ps = allocation (c .units) ps ≡ true
 abbrev pub Covering : Case → List ℕ → Type 0
 Covering c ps = covers (c .demand) (totalNet (c .units) ps) ≡ true
 
--- z is the greatest of the floors of all whole multipliers from 0 to 65,536
+-- z is a floor of some multiplier from 0 to 65,536, and none of them has a greater one
 pub record GreatestFloor (q : Problem) (z : ℤ) : Type 0 where
   pub one : (m : ℕ) × (m ≤ 65536) × (floor m q ≡ z)
   pub greatest : (m : ℕ) → m ≤ 65536 → floor m q ≤ℤ z
 
--- "the reply's cost minus its gap"
+-- what the reply claims as a lower bound
 abbrev pub costLessGap : Reply → ℤ
 costLessGap r = pos (r .cost) -ℤ pos (r .gap)
 
 -- what holds of a reply to a case
 pub record ReplyPromise (c : Case) (r : Reply) : Type 0 where
-  -- "The reply's outputs are then those of document 01's bisection, are permitted, cover the demand after losses
+  -- (rule 16.10) the outputs are those that the search finds, each permitted, together covering
   pub bisection : r .outputs ≡ found (problemOf c) .best
   pub permitted : Permitted c (r .outputs)
   pub covering : Covering c (r .outputs)
-  -- and have by document 01 exactly the cost and surplus that the reply states."
+  -- and cost and surplus are stated as they are
   pub cost : r .cost ≡ totalCost (c .units) (r .outputs)
   pub surplus : 100000000 * c .demand + r .surplus ≡ totalNet (c .units) (r .outputs)
-  -- (weak duality) "Whatever permitted outputs anyone gives the units, if they cover the demand after losses, they cost at least the reply's cost minus its gap: nobody spends less."
+  -- (rule 16.11, weak duality) no allocation that covers is cheaper than cost less gap
   pub nobodySpendsLess : (ps : List ℕ) → Permitted c ps → Covering c ps → costLessGap r ≤ℤ pos (totalCost (c .units) ps)
-  -- "That difference equals the greatest of the floors of all whole multipliers from 0 to 65,536."
+  -- (rule 16.12) and no multiplier proves a better bound
   pub greatestFloor : GreatestFloor (problemOf c) (costLessGap r)
-  -- "Whichever of these multipliers is taken, if its choices cover the demand, they cost at least as much as the reply."
+  -- (rule 16.13) no multiplier has covering choices that are cheaper than the reply
   -- (What the evaluation of a multiplier takes is `Choice.selected`: its choices.)
   pub cheapest : (m : ℕ) → m ≤ 65536 → Covering c (selected m (problemOf c)) → r .cost ≤ totalCost (c .units) (selected m (problemOf c))
-  -- "The reply's evaluations are exactly as many as document 01's bisection makes for that file, never above 18."
+  -- (rule 16.14) the evaluations are counted as the search makes them
   pub evaluations : r .evaluations ≡ length (found (problemOf c) .evaluated)
   pub atMost18 : r .evaluations ≤ 18
 
 -- what holds of dispatch's answer for an accepted file
 pub record Promise (file : List ℕ) (result : DispatchResult) : Type 0 where
-  -- (number 11) "For every accepted case file, dispatch refuses for lack of an allocation exactly when no permitted outputs cover the demand after losses."
+  -- (rule 16.8) number 11 exactly where no allocation covers
   pub refuses : (result .answer ≡ Dispatched.Refused NoAllocation) ↔ ((ps : List ℕ) → Permitted (caseOf file) ps → Covering (caseOf file) ps → ⊥)
-  -- "Otherwise it replies."
+  -- (rule 16.9) and else a reply
   pub replies : ¬ (result .answer ≡ Dispatched.Refused NoAllocation) → result .answer ≡ Dispatched.Replied (28 + 2 * length (caseOf file .units))
   pub reply : ¬ (result .answer ≡ Dispatched.Refused NoAllocation) → ReplyPromise (caseOf file) (replyIn (result .reply))
 
--- "An accepted case file is one that passes every check before step 1; demand 3 concerns such a file, given with a long enough reply."
+-- of every accepted file (rule 4.8) and every reply buffer that is long enough
 abbrev pub Demand3 : (List ℕ → List ℕ → DispatchResult) → Type 0
 Demand3 dispatch = (file reply : List ℕ) → fileVerdict file ≡ Verdict.Accepted → 92 ≤ length reply → Promise file (dispatch file reply)

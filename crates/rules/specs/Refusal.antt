@@ -1,4 +1,4 @@
--- Document 01, "Refusals by the place of checking": "Each returns only its number; … Within a place the numbers are checked as listed."
+-- Rules 4.1 to 4.8 of docs/SPECIFICATION.md: the refusals, their numbers, and the checks of a file and of a unit in their order. (The order of each call as a whole is in `Calls`.)
 use Prim.Native.Nat.{ℕ, zero, suc, _+_, _*_}
 use mathlib.Core.Bool.{Bool, cond, not, _&&_, _||_}
 use mathlib.Core.List.{List, [], _∷_}
@@ -29,7 +29,7 @@ use Rattle.rules.specs.declared.Verdict.the-variants.{Accepted, Refused}
 
 infixl 21 _refuses_
 infixr 20 _then_
--- the number of each refusal in document 01's table
+-- the number of each refusal (rule 4.2)
 abbrev pub numberOf : Refusal → ℕ
 numberOf BufferTooShort = 1
 numberOf FileTooShort = 2
@@ -51,7 +51,7 @@ abbrev pub numberOfVerdict : Verdict → ℕ
 numberOfVerdict Accepted = 0
 numberOfVerdict (Refused r) = numberOf r
 
--- a condition that refuses, and one check after another
+-- (rule 4.3) a condition that refuses, and one check after another
 abbrev pub _refuses_ : Bool → Refusal → Verdict
 condition refuses r = cond condition (Refused r) Accepted
 
@@ -63,7 +63,7 @@ abbrev pub inOrder : List Verdict → Verdict
 inOrder [] = Accepted
 inOrder (v ∷ vs) = v then inOrder vs
 
--- ---- head
+-- ---- head (rule 2.2)
 
 unfoldable pub headVerdict : List ℕ → Verdict
 headVerdict file =
@@ -72,7 +72,7 @@ headVerdict file =
     then (ltb (count file) 1 || ltb 32 (count file)) refuses CountOutOfRange
     then ltb 320000 (demand file) refuses DemandOutOfRange
 
--- ---- contents: "Body 1 starts at 8 + 4n, each later body where the one before ends, and the last ends with the file. A length is 26, 30, 34, 38 or 42."
+-- ---- contents (rules 2.4, 2.5): the bodies lie one behind the other without a gap, from the end of the contents to the end of the file, each as long as some number of zones makes it
 
 abbrev pub start : List ℕ → ℕ → ℕ
 start file zero = 8 + 4 * count file
@@ -90,9 +90,9 @@ contentsVerdict file =
     || not (all (entryFits file) (each (count file) (λ i. i)))
     || not (eqb (start file (count file)) (length file))) refuses ContentsInvalid
 
--- ---- body, unit by unit. Files and rows share these checks: a row has no length, and may have an unused edge that is not zero.
+-- ---- body, unit by unit (rules 4.4 to 4.6). Files and rows share these checks: a row has no length, and may have an unused edge that is not zero.
 
--- "least < first lower edge; lower < upper in each zone; an upper edge < the next lower edge; last upper edge < greatest"
+-- (rule 2.8) from the lower limit through the edges to the upper limit, each number is above the one before
 unfoldable pub zonesAscend : ℕ → List Zone → ℕ → Bool
 zonesAscend below [] above = ltb below above
 zonesAscend below (z ∷ zs) above = ltb below (z .lower) && ltb (z .lower) (z .upper) && zonesAscend (z .upper) zs above
@@ -127,7 +127,7 @@ bodyVerdict s =
     let u = unitOfBody s in
     (ltb 4 (u .zoneCount) || not (eqb (length s) (bodyLength (u .zoneCount)))) refuses ZoneCountInvalid then unitVerdict u
 
--- ---- "An accepted case file is one that passes every check before step 1."
+-- ---- (rule 4.8) an accepted file: nothing from 2 to 10 refuses it
 unfoldable pub fileVerdict : List ℕ → Verdict
 fileVerdict file =
     headVerdict file then contentsVerdict file then inOrder (each (count file) (λ i. bodyVerdict (body file i)))

@@ -1,5 +1,5 @@
--- Document 01, "Dispatches to be proved": its cases and both pricings as one table, from the file's bytes to the reply's, and one theorem.
--- The other lists tell apart rules which the paper's table does not: `further` (dispatches, pricings, packings, unpackings), `limits` (the last accepted value of each field and the first refused one), `refusals` (each number from each call that gives it), `orders` (an input that breaks two rules gets the number of the earlier check), `panelForms` (the calls as C sees them), `searches` (steps 2 to 4 by themselves). Above each of their rows stands the wrong rule that it shows. Where a reader and a writer could be wrong alike, the bytes and the rows are spelled out.
+-- Rules 17.1 and 17.3 of docs/SPECIFICATION.md: the example cases and both pricings as one table, `table`, from the file's bytes to the reply's, and one theorem.
+-- The other lists tell apart rules which that table does not: `further` (dispatches, pricings, packings, unpackings), `limits` (the last accepted value of each field and the first refused one), `refusals` (each number from each call that gives it), `orders` (an input that breaks two rules gets the number of the earlier check), `panelForms` (the calls as C sees them), `searches` (steps 2 to 4 by themselves). Above each of their rows stands the wrong rule that it shows. Where a reader and a writer could be wrong alike, the bytes and the rows are spelled out.
 use Prim.Native.Nat.{ℕ, zero, suc, _+_, _*_}
 use mathlib.Core.Bool.{Bool, true, false}
 use mathlib.Core.List.{List, [], _∷_, _++_, map}
@@ -111,7 +111,7 @@ abbrev pub reply : List ℕ → ℕ → ℕ → ℕ → ℕ → Answer
 reply ps c g e s =
     writes (28 + 2 * length ps) (over (replyBytes (record { evaluations = e; cost = c; gap = g; surplus = s; outputs = ps })) buffer)
 
--- ---- the units. U5 is the whole file, as the paper spells it.
+-- ---- the units. U5 is the whole file of rule 15.5, byte by byte.
 
 unfoldable pub u5 : List ℕ
 u5 =
@@ -343,7 +343,7 @@ further =
 
 unfoldable pub limits : List Row
 limits =
-    -- a limit lower than the paper's; for least, a higher one
+    -- a limit lower than that of rule 2.6; for least, a higher one
     record { call = check atLimits; result = checks 0 }
     -- d up to 320,001
     ∷ record { call = check (put 4 (0x00 ∷ 0x04 ∷ 0xE2 ∷ 0x01 ∷ []) atLimits); result = checks 5 }

@@ -1,4 +1,4 @@
--- Demand 2, "Rows become case files and files become rows by document 01's layout, each undoing the other", and Item 1, "a zone is obeyed or its file refused", as statements. (They are proved in proofs/Encoding/Undo and proofs/Obeyed.)
+-- Rules 16.4 to 16.6 (demand 2: packing and unpacking undo each other) and 16.15 (a zone is obeyed or its file refused) of docs/SPECIFICATION.md, as statements. (They are proved in proofs/Encoding/Undo and proofs/Obeyed.)
 use Prim.Native.Nat.{ℕ, _+_, _*_, _/_, _≤_, _<_}
 use mathlib.Core.Bool.{false}
 use mathlib.Core.List.{List}
@@ -16,14 +16,14 @@ use Rattle.rules.specs.declared.Verdict.{Verdict}
 use Rattle.rules.specs.declared.Packed.{Packed}
 use Rattle.rules.specs.declared.Unpacked.{Unpacked}
 
--- what packing writes is an accepted file
+-- (rule 16.4) what packing writes is an accepted file
 abbrev pub PackedFileIsAccepted : Type 0
 PackedFileIsAccepted =
     (d : ℕ) (rows buffer : List ℕ) (n : ℕ)
     → packed d rows buffer .answer ≡ Packed.Written n
     → fileVerdict (take n (packed d rows buffer .file)) ≡ Verdict.Accepted
 
--- and unpacking it gives back exactly the demand and the rows
+-- (rule 16.5) and unpacking it gives back exactly the demand and the rows
 abbrev pub UnpackingUndoesPacking : Type 0
 UnpackingUndoesPacking =
     (d : ℕ) (rows buffer out : List ℕ) (n : ℕ)
@@ -31,7 +31,7 @@ UnpackingUndoesPacking =
     → 608 ≤ length out
     → unpacked (take n (packed d rows buffer .file)) out ≡ record { answer = Unpacked.Read d (length rows / 19); rows = over rows out }
 
--- what unpacking gives for an accepted file packs to exactly that file
+-- (rule 16.6) what unpacking gives for an accepted file packs to exactly that file
 abbrev pub PackingUndoesUnpacking : Type 0
 PackingUndoesUnpacking =
     (file out buffer : List ℕ) (d n : ℕ)
@@ -44,7 +44,7 @@ PackingUndoesUnpacking =
 abbrev pub twoBytes : List ℕ → ℕ → ℕ
 twoBytes s at = 256 * getD s at 0 + getD s (at + 1) 0
 
--- for every file, every unit i and every zone k that its bytes spell: the file is refused, or no output strictly between the zone's edges is permitted
+-- (rule 16.15) for every file, every unit i and every zone k that its bytes spell: the file is refused, or no output strictly between the zone's edges is permitted
 abbrev pub ZoneObeyedOrFileRefused : Type 0
 ZoneObeyedOrFileRefused =
     (file : List ℕ) (i k : ℕ)

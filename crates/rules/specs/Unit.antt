@@ -1,4 +1,4 @@
--- A generating unit: its numbers, and document 01's "Permitted outputs, cost, net". An output is a whole number of steps of 0.1 MW.
+-- Rules 5.1 to 7.1 of docs/SPECIFICATION.md. A generating unit: its numbers, permitted outputs, cost and net. An output is a whole number of steps of 0.1 MW.
 use Prim.Native.Nat.{ℕ, _+_, _*_, _-_}
 use mathlib.Core.Bool.{Bool, true, cond, not, _&&_}
 use mathlib.Core.List.{List}
@@ -36,29 +36,29 @@ zones u = each (u .zoneCount) (zoneAt (u .edges))
 
 -- ---- permitted outputs
 
--- "strictly inside": both edges of a zone are permitted
+-- (rule 5.1) strictly inside a zone: both its edges are permitted
 abbrev pub strictlyInside : ℕ → Zone → Bool
 strictlyInside p z = ltb (z .lower) p && ltb p (z .upper)
 
--- the ramp window: "If the previous output is above 0, p also lies from previous − down to previous + up. With previous 0 there is no ramp window."
+-- (rules 5.2, 5.3) the ramp window, of a unit that ran before; where the previous output is 0 there is none
 -- (The difference of naturals stops at 0: then there is no lower limit.)
 abbrev pub inRampWindow : Unit → ℕ → Bool
 inRampWindow u p = cond (ltb 0 (u .previous)) (leb (u .previous - u .down) p && leb p (u .previous + u .up)) true
 
--- "A running output p lies between least and greatest and strictly inside no zone."
+-- (rule 5.1) a running output: within the limits and the window, inside no zone
 abbrev pub runningOutput : Unit → ℕ → Bool
 runningOutput u p =
     leb (u .least) p && leb p (u .greatest) && all (λ z. not (strictlyInside p z)) (zones u) && inRampWindow u p
 
--- "Output 0 is permitted exactly for mark 0, ramp or not."
+-- (rule 5.4) standing is for the mark alone to say, not for the window
 unfoldable pub permitted : Unit → ℕ → Bool
 permitted u p = cond (eqb p 0) (eqb (u .mark) 0) (runningOutput u p)
 
--- the cost of a unit at an output, in millionths of the currency per hour
+-- (rules 6.1, 6.2) the cost of a unit at an output, standing too, in millionths of the currency per hour
 unfoldable pub cost : Unit → ℕ → ℕ
 cost u p = u .c0 + u .c1 * p + u .c2 * p * p
 
--- the net of a unit: its output after losses, in hundred-millionths of a step
+-- (rule 7.1) the net of a unit: its output after losses, in hundred-millionths of a step
 -- (The difference of naturals stops at 0; in an accepted file it never does: `Quantities.net-whole`.)
 unfoldable pub net : Unit → ℕ → ℕ
 net u p = 100000000 * p - u .b * p * p

@@ -1,8 +1,8 @@
-// The answers of the public calls. What they mean is document 01 as definitions, in specs/.
+// The answers of the public calls. What they mean is docs/SPECIFICATION.md as definitions, in specs/.
 ghost use mathlib.Core.Path.{_≡_};
 ghost use Rattle.rules.specs.Refusal.{numberOf};
 
-// Why a call refuses. `number` gives document 01's number of each.
+// Why a call refuses. `number` gives the number of each (rule 4.2).
 pub enum Refusal {
     // A reply under 92 bytes, rows under 608 numbers, or a panel's answers under two.
     BufferTooShort,

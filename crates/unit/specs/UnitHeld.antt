@@ -1,4 +1,4 @@
--- A unit of document 01 as the code's struct holds it, number by number.
+-- A unit of the rules as the code's struct holds it, number by number.
 use Rattle.rules.specs.Unit.{Unit}
 use Rattle.unit.specs.declared.Unit as code
 

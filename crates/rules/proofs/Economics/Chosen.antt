@@ -1,4 +1,4 @@
--- "The permitted p of least priced cost, the greatest p on a tie": what that is of any candidates, that there is only one, and that the scan of `Choice` finds it.
+-- The choice (rule 9.3), least priced cost and the greatest output on a tie: what that is of any candidates, that there is only one, and that the scan of `Choice` finds it.
 use mathlib.Core.Path.{_≡_, refl, sym, subst}
 use mathlib.Core.Bool.{Bool, true, false, cond}
 use mathlib.Core.List.{List, [], _∷_}

@@ -66,7 +66,7 @@ module _ (q : Problem) (proper : Every Proper (q .offers)) (solves : solvable q 
       let available = solvable-available q proper solves in
       below-first (relaxation q available (λ m. selected m q) (selected-tied q available)) (greatestOutputs q) (greatest-given (q .offers) available) (solvable-covers q solves) (λ ys a. greatest-net (q .offers) ys proper a)
 
-  -- "the reply's cost minus its gap" is the greatest floor evaluated
+  -- cost less gap is the greatest floor evaluated
   pub difference : costLessGap (solve q) ≡ greatestFloor q (found q .evaluated)
   unfolding solve replyOf
   difference = gap-exact (totalCost (unitsOf q) (found q .best)) (greatestFloor q (found q .evaluated)) floor-at-most-cost
