@@ -1,51 +1,71 @@
 // Reads a case file from standard input and prints its dispatch, or `refused` and the number of the refusal.
+ghost use mathlib.Core.Path.{_≡_};
 ghost use Prim.Native.Nat.{_≤_};
 ghost use lib.ListN.{length};
+ghost use Rattle.rules.specs.Lists.{over};
+ghost use Rattle.text.specs.Text.{printed};
+use libc::STDERR_FILENO;
 use libc::STDIN_FILENO;
 use libc::STDOUT_FILENO;
-use rules::Dispatched;
 
-fn print_number(word: &[u8], n: u64) {
-    io::write_all(STDOUT_FILENO, word);
-    io::print_decimal(STDOUT_FILENO, n);
+// How many bytes were read, and whether a read failed.
+struct Input {
+    length: usize,
+    failed: bool,
 }
 
-// A line for each unit: its number from 1, and its output.
-fn print_outputs(outputs: &[u8]) {
-    let count = outputs.len() / 2;
-    let mut i = 0;
-    while i < count {
-        let output = fields::read_u16(outputs, 2 * i);
-        i += 1;
-        print_number(b"", i as u64);
-        print_number(b" ", output as u64);
-        io::write_all(STDOUT_FILENO, b"\n");
+// Reads until `file` is full, the input ends or a read fails.
+fn read_input(file: &mut [u8]) -> Input
+    ensures { λ r. ⌜ r .length ≤ length (now (file .entry)) ⌝ }
+{
+    let mut at = 0;
+    while at < file.len() {
+        let got = libc::read(STDIN_FILENO, &mut file[at..]);
+        if got < 0 {
+            return Input {
+                length: at,
+                failed: true,
+            };
+        }
+        let n = io::count(got, &file[at..]);
+        if n == 0 {
+            return Input {
+                length: at,
+                failed: false,
+            };
+        }
+        at += n;
+    }
+    Input {
+        length: at,
+        failed: false,
     }
 }
 
-// The summary line, then the outputs.
-fn print_reply(reply: &[u8])
-    requires { ⌜ 28 ≤ length (now reply) ⌝ }
+// Writes the text of the file's answer at the start of `out`, and gives its length.
+fn answer(file: &[u8], out: &mut [u8]) -> usize
+    requires { ⌜ 2048 ≤ length (now out) ⌝ }
+    ensures { λ r. ⌜ (r ≡ length (printed (now (file .entry)))) × (now (out .exit) ≡ over (printed (now (file .entry))) (now (out .entry))) ⌝ }
 {
-    print_number(b"units ", fields::read_u16(reply, 0) as u64);
-    print_number(b" evaluations ", fields::read_u16(reply, 2) as u64);
-    print_number(b" cost ", fields::read_u64(reply, 4));
-    print_number(b" gap ", fields::read_u64(reply, 12));
-    print_number(b" surplus ", fields::read_u64(reply, 20));
-    io::write_all(STDOUT_FILENO, b"\n");
-    print_outputs(&reply[28..]);
+    let mut reply = [0u8; 92];
+    let answered = bisection::dispatch(file, &mut reply);
+    text::write_text(out, answered, &reply)
+}
+
+fn complain(message: &[u8]) {
+    io::write_all(STDERR_FILENO, message);
 }
 
 fn main() {
     let mut file = [0u8; 1481];
-    let n = io::read_full(STDIN_FILENO, &mut file);
-    let mut reply = [0u8; 92];
-    let answer = bisection::dispatch(&file[..n], &mut reply);
-    match answer {
-        Dispatched::Refused(r) => {
-            print_number(b"refused ", rules::number(r) as u64);
-            io::write_all(STDOUT_FILENO, b"\n");
-        }
-        Dispatched::Replied(length) => print_reply(&reply[..length]),
+    let Input { length, failed } = read_input(&mut file);
+    if failed {
+        complain(b"standard input could not be read\n");
+        return;
+    }
+    let mut out = [0u8; 2048];
+    let n = answer(&file[..length], &mut out);
+    if !io::write_all(STDOUT_FILENO, &out[..n]) {
+        complain(b"the answer could not be written\n");
     }
 }

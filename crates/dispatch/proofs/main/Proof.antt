@@ -1,98 +1,107 @@
--- `dispatch::main` lends print_reply the reply's own bytes: dispatch says how many these are.
+use borrow.Author.Needs.{needs}
 use native.Mathlib.Omega.{arith}
 use Prim.Native.Nat.{_≤_}
-use lib.ListN.{length-take, length}
-use mathlib.Core.Path.{_≡_, ap, _∙_}
-use Rattle.rules.specs.Calls.{DispatchResult}
-use Rattle.rules.proofs.Lengths.{replied-length}
-use borrow.Author.Needs.{needs}
+use lib.ListN.{length, length-append, length-take}
+use mathlib.Core.Path.{_≡_, ap}
 use Rattle.dispatch.proofs.main.Statement.{statement}
 use Rattle.dispatch.proofs.main.Tie as tie
+use Rattle.dispatch.proofs.main.Reads as reads
+use Rattle.dispatch.proofs.main.Lts as lts
+use Rattle.dispatch.proofs.answer.Reads as answer-reads
+use Rattle.dispatch.proofs.complain.Reads as complain-reads
+use Rattle.dispatch.proofs.read_input.Reads as read-input-reads
+use Rattle.io.proofs.write_all.Reads as write-all-reads
 
-slice-aggregate-read-full : tie.Need-slice-aggregate-read-full
-slice-aggregate-read-full c = search needs
+file-long : (c : tie.After-read-input) → length (c .read-input .last .0) ≡ 1481
+file-long c = search needs
 
--- the length of the reply, and of the buffer that it is in
-replied : (c : tie.After-answer2) → (30 ≤ c .answer2 .given .0 .0) × (c .answer2 .given .0 .0 ≤ 92)
-replied c = replied-length _ _ _ (ap (λ (r : DispatchResult). r .answer) (c .before .before .before .dispatch .ensures .0) ∙ c .answer2 .given .1)
+out-long : (c : tie.After-answer) → length (c .answer .last .1 .0) ≡ 2048
+out-long c = search needs
 
-reply-long : (c : tie.After-answer2) → length (c .before .before .before .dispatch .last .1 .0) ≡ 92
-reply-long c = search needs
+text-long : (c : tie.After-answer) → c .answer .result ≤ length (c .answer .last .1 .0)
+text-long c = omega (arith, c .answer .ensures .0, simp length-append at (ap length (c .answer .ensures .1)))
 
-read-full-requires : tie.Need-read-full-requires
-read-full-requires c κs = search needs
+-- src/main.rt:61:47
+slice-aggregate-read-input : tie.Need-slice-aggregate-read-input
+slice-aggregate-read-input c = search needs
 
-array-share-prefix-file : tie.Need-array-share-prefix-file
-array-share-prefix-file c = search needs
+-- src/main.rt:61:36
+read-input-requires : tie.Need-read-input-requires
+read-input-requires c κs = search needs
 
-slice-aggregate-dispatch : tie.Need-slice-aggregate-dispatch
-slice-aggregate-dispatch c = search needs
+-- src/main.rt:63:18
+slice-aggregate-complain : tie.Need-slice-aggregate-complain
+slice-aggregate-complain c = search needs
 
-slice-aggregate-dispatch-2 : tie.Need-slice-aggregate-dispatch-2
-slice-aggregate-dispatch-2 c = search needs
+-- src/main.rt:63:9
+complain-requires : tie.Need-complain-requires
+complain-requires c κs = search needs
 
-dispatch-requires : tie.Need-dispatch-requires
-dispatch-requires c κs = search needs
-
-enum-known-answer : tie.Need-enum-known-answer
-enum-known-answer c = search needs
-
-slice-aggregate-print-number : tie.Need-slice-aggregate-print-number
-slice-aggregate-print-number c = search needs
-
-number-requires : tie.Need-number-requires
-number-requires c κs = search needs
-
-cast-print-number : tie.Need-cast-print-number
-cast-print-number c = search needs
-
-print-number-requires : tie.Need-print-number-requires
-print-number-requires c κs = search needs
-
-slice-aggregate-write-all : tie.Need-slice-aggregate-write-all
-slice-aggregate-write-all c = search needs
-
-write-all-requires : tie.Need-write-all-requires
-write-all-requires c κs = search needs
-
-enum-known-answer-2 : tie.Need-enum-known-answer-2
-enum-known-answer-2 c = search needs
-
-array-share-prefix-reply : tie.Need-array-share-prefix-reply
-array-share-prefix-reply c = omega (arith, replied (c .before), reply-long (c .before))
-
-slice-aggregate-print-reply : tie.Need-slice-aggregate-print-reply
-slice-aggregate-print-reply c = simp length-take (omega (arith, replied (c .before .before), reply-long (c .before .before)))
-
-print-reply-requires : tie.Need-print-reply-requires
-print-reply-requires c κs = simp length-take (omega (arith, replied (c .before .before), reply-long (c .before .before)))
-
+-- src/main.rt:64:9
 returns : tie.Need-returns
 returns c = search needs
 
+-- src/main.rt:67:20
+array-share-prefix-file : tie.Need-array-share-prefix-file
+array-share-prefix-file c = search needs
+
+-- src/main.rt:67:20
+slice-aggregate-answer : tie.Need-slice-aggregate-answer
+slice-aggregate-answer c = simp length-take (omega (arith, file-long (c .before .before .before)))
+
+-- src/main.rt:67:37
+slice-aggregate-answer-2 : tie.Need-slice-aggregate-answer-2
+slice-aggregate-answer-2 c = search needs
+
+-- src/main.rt:67:9
+answer-requires : tie.Need-answer-requires
+answer-requires c κs = search needs
+
+-- src/main.rt:68:38
+array-share-prefix-out : tie.Need-array-share-prefix-out
+array-share-prefix-out c = omega (arith, text-long (c .before), out-long (c .before))
+
+-- src/main.rt:68:38
+slice-aggregate-write-all : tie.Need-slice-aggregate-write-all
+slice-aggregate-write-all c = simp length-take (omega (arith, text-long (c .before .before), out-long (c .before .before)))
+
+-- src/main.rt:68:9
+write-all-requires : tie.Need-write-all-requires
+write-all-requires c κs = search needs
+
+-- src/main.rt:69:18
+slice-aggregate-complain-2 : tie.Need-slice-aggregate-complain-2
+slice-aggregate-complain-2 c = search needs
+
+-- src/main.rt:69:9
+complain-requires-2 : tie.Need-complain-requires-2
+complain-requires-2 c κs = search needs
+
+-- src/main.rt:59:1
 returns-2 : tie.Need-returns-2
 returns-2 c = search needs
+
+-- src/main.rt:59:1
+returns-3 : tie.Need-returns-3
+returns-3 c = search needs
 
 pub main-spec : {M : Type 1} → statement M
 main-spec =
     tie.close
     (tie.spec
-    slice-aggregate-read-full
-    read-full-requires
+    slice-aggregate-read-input
+    read-input-requires
+    slice-aggregate-complain
+    complain-requires
+    returns
     array-share-prefix-file
-    slice-aggregate-dispatch
-    slice-aggregate-dispatch-2
-    dispatch-requires
-    enum-known-answer
-    slice-aggregate-print-number
-    number-requires
-    cast-print-number
-    print-number-requires
+    slice-aggregate-answer
+    slice-aggregate-answer-2
+    answer-requires
+    array-share-prefix-out
     slice-aggregate-write-all
     write-all-requires
-    enum-known-answer-2
-    array-share-prefix-reply
-    slice-aggregate-print-reply
-    print-reply-requires
-    returns
-    returns-2)
+    slice-aggregate-complain-2
+    complain-requires-2
+    returns-2
+    returns-3)
