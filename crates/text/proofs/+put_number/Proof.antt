@@ -1,11 +1,10 @@
-use mathlib.Core.List.{[]}
+-- `text::put_number` meets its contract: by recursion on the number: the digits of n / 10, then the last digit.
 use Rattle.text.proofs.Putting.{put-none, put-byte}
 use Rattle.text.proofs.Digits.{decimal-small, decimal-more, length-tenth}
 use borrow.Author.Needs.{needs}
 use native.Mathlib.Omega.{arith}
-use Prim.Native.Nat.{ℕ, _+_, _≤_, _<_, _-_, _*_, _%_}
-use lib.ListN.{length, getD, take, drop, set, length-set}
-use mathlib.Core.Path.{_≡_, refl, ap, sym, _∙_}
+use Prim.Native.Nat.{ℕ, _+_, _≤_, _<_, _%_}
+use lib.ListN.{length}
 use denote.Ref.{now}
 use Prim.Native.Nat.{ℕ, _<_}
 use borrow.Fn.Kinds.{In}
@@ -27,7 +26,6 @@ abbrev put-number-below : ℕ → In 1 put-number-kinds.ps
 put-number-below t =
     and 1 put-number-kinds.ps (falls 1 put-number-kinds.ps _<_ μ-put-number t) put-number.Pre
 
--- src/lib.rt:29:21
 put-number-add-text :
     (t : ℕ) →
     put-number-lts.Need-add-text
@@ -36,35 +34,30 @@ put-number-add-text :
     put-number.Post
 put-number-add-text t c = search needs
 
--- src/lib.rt:29:20
 put-number-cast-text : (t : ℕ) → put-number-lts.Need-cast-text (
   put-number-below t,
   put-number.Post,
 ) (put-number-at t) put-number.Post
 put-number-cast-text t c = search needs
 
--- src/lib.rt:29:9
 put-number-slice-write-text : (t : ℕ) → put-number-lts.Need-slice-write-text (
   put-number-below t,
   put-number.Post,
 ) (put-number-at t) put-number.Post
 put-number-slice-write-text t c = search needs
 
--- src/lib.rt:30:16
 put-number-add-result : (t : ℕ) → put-number-lts.Need-add-result (
   put-number-below t,
   put-number.Post,
 ) (put-number-at t) put-number.Post
 put-number-add-result t c = search needs
 
--- src/lib.rt:30:9
 put-number-same-length : (t : ℕ) → put-number-lts.Need-same-length (
   put-number-below t,
   put-number.Post,
 ) (put-number-at t) put-number.Post
 put-number-same-length t c = search needs
 
--- src/lib.rt:30:9
 put-number-returns :
     (t : ℕ) →
     put-number-lts.Need-returns
@@ -77,28 +70,24 @@ put-number-returns t c =
     let k : a .at < length (now (a .text)) = omega arith in
     (rw (decimal-small (a .n) (c .if1 .taken)) (put-byte r (48 + a .n) k (put-none (now (a .text)) (a .at))), omega arith)
 
--- src/lib.rt:32:9
 put-number-put-number-requires : (t : ℕ) → put-number-lts.Need-put-number-requires (
   put-number-below t,
   put-number.Post,
 ) (put-number-at t) put-number.Post
 put-number-put-number-requires t c κs = search needs
 
--- src/lib.rt:33:16
 put-number-add-text-2 : (t : ℕ) → put-number-lts.Need-add-text-2 (
   put-number-below t,
   put-number.Post,
 ) (put-number-at t) put-number.Post
 put-number-add-text-2 t c = search needs
 
--- src/lib.rt:33:15
 put-number-cast-text-2 : (t : ℕ) → put-number-lts.Need-cast-text-2 (
   put-number-below t,
   put-number.Post,
 ) (put-number-at t) put-number.Post
 put-number-cast-text-2 t c = search needs
 
--- src/lib.rt:33:5
 put-number-slice-write-text-2 : (t : ℕ) → put-number-lts.Need-slice-write-text-2 (
   put-number-below t,
   put-number.Post,
@@ -109,21 +98,18 @@ put-number-slice-write-text-2 t c =
     let e = c .before .before .put-number .ensures .0 .ends in
     omega (arith, length-tenth n (omega arith))
 
--- src/lib.rt:34:5
 put-number-add-result-2 : (t : ℕ) → put-number-lts.Need-add-result-2 (
   put-number-below t,
   put-number.Post,
 ) (put-number-at t) put-number.Post
 put-number-add-result-2 t c = search needs
 
--- src/lib.rt:24:1
 put-number-same-length-2 : (t : ℕ) → put-number-lts.Need-same-length-2 (
   put-number-below t,
   put-number.Post,
 ) (put-number-at t) put-number.Post
 put-number-same-length-2 t c = search needs
 
--- src/lib.rt:24:1
 put-number-returns-2 : (t : ℕ) → put-number-lts.Need-returns-2 (
   put-number-below t,
   put-number.Post,

@@ -1,18 +1,15 @@
+-- `text::put_outputs` meets its contract: the loop has put the lines of the first i units, of at most 42 bytes each.
 use Rattle.text.specs.Text.{Put, outputLines}
 use Rattle.text.proofs.Putting.{put-none}
 use Rattle.text.proofs.Lines.{put-line}
 use borrow.Author.Needs.{needs}
 use native.Mathlib.Omega.{arith}
-use Prim.Native.Nat.{ℕ, _+_, _≤_, _<_, _-_, _*_, _/_}
-use lib.ListN.{length, getD, take, drop, set, length-set}
-use mathlib.Core.Path.{_≡_, refl, ap, sym, _∙_}
+use Prim.Native.Nat.{_+_, _≤_, _-_, _*_, _/_}
+use lib.ListN.{length}
+use mathlib.Core.Path.{_≡_, refl}
 use denote.Ref.{now}
 use Rattle.text.proofs.put_outputs.Statement.{statement}
 use Rattle.text.proofs.put_outputs.Tie as tie
-use Rattle.text.proofs.put_outputs.Reads as reads
-use Rattle.text.proofs.put_outputs.Lts as lts
-use Rattle.fields.proofs.read_u16.Reads as read-u16-reads
-use Rattle.text.proofs.put_output.Reads as put-output-reads
 
 abbrev Inv-loop : tie.InvT-loop
 Inv-loop text₀ at reply count p₀ i₀ text p i = (i ≤ count) × (count ≡ (length reply - 28) / 2) × (length text ≡ length text₀) × (p ≤ at + 42 * i) × Put text₀ at (outputLines i reply) text p
@@ -20,44 +17,34 @@ Inv-loop text₀ at reply count p₀ i₀ text p i = (i ≤ count) × (count ≡
 abbrev μ-loop : tie.MeasureT-loop
 μ-loop text₀ at reply count p₀ i₀ text p i = count - i
 
--- src/lib.rt:61:18
 sub-count : tie.Need-sub-count Inv-loop μ-loop
 sub-count c = search needs
 
--- src/lib.rt:64:5
 loop-holds : tie.Need-loop-holds Inv-loop μ-loop
 unfolding outputLines
 loop-holds c = let a = c .before .before .args in (omega arith, refl, refl, omega arith, put-none (now (a .text)) (a .at))
 
--- src/lib.rt:65:51
 mul-read-u16 : tie.Need-mul-read-u16 Inv-loop μ-loop
 mul-read-u16 c = search needs
 
--- src/lib.rt:65:46
 add-read-u16 : tie.Need-add-read-u16 Inv-loop μ-loop
 add-read-u16 c = search needs
 
--- src/lib.rt:65:13
 read-u16-requires : tie.Need-read-u16-requires Inv-loop μ-loop
 read-u16-requires c κs = search needs
 
--- src/lib.rt:66:9
 add-i : tie.Need-add-i Inv-loop μ-loop
 add-i c = search needs
 
--- src/lib.rt:67:43
 cast-put-output : tie.Need-cast-put-output Inv-loop μ-loop
 cast-put-output c = search needs
 
--- src/lib.rt:67:9
 put-output-requires : tie.Need-put-output-requires Inv-loop μ-loop
 put-output-requires c κs = search needs
 
--- src/lib.rt:64:5
 loop-less : tie.Need-loop-less Inv-loop μ-loop
 loop-less c = search needs
 
--- src/lib.rt:64:5
 loop-again : tie.Need-loop-again Inv-loop μ-loop
 loop-again c =
     let c₂ = c .before .before in
@@ -68,11 +55,9 @@ loop-again c =
     let k = c₂ .put-output in
     (omega arith, l .inv .1, omega arith, omega (arith, k .ensures .1), put-line room (l .i) (c₁ .read-u16 .result) (now (a .reply)) (c₁ .read-u16 .ensures) (l .inv .4) (k .ensures .0))
 
--- src/lib.rt:57:1
 same-length : tie.Need-same-length Inv-loop μ-loop
 same-length c = search needs
 
--- src/lib.rt:57:1
 returns : tie.Need-returns Inv-loop μ-loop
 returns c =
     let l = c .before .loop in

@@ -1,61 +1,40 @@
+-- `text::put_reply` meets its contract: the fields read are those of the first line; the outputs' lines are put behind it.
 use Rattle.text.proofs.Lines.{put-reply}
 use borrow.Author.Needs.{needs}
-use native.Mathlib.Omega.{arith}
-use Prim.Native.Nat.{ℕ, _+_, _≤_, _<_, _-_, _*_}
-use lib.ListN.{length, getD, take, drop, set, length-set}
-use mathlib.Core.Path.{_≡_, refl, ap, sym, _∙_}
 use denote.Ref.{now}
-use borrow.Author.Needs.{needs}
 use Rattle.text.proofs.put_reply.Statement.{statement}
 use Rattle.text.proofs.put_reply.Tie as tie
-use Rattle.text.proofs.put_reply.Reads as reads
-use Rattle.text.proofs.put_reply.Lts as lts
-use Rattle.fields.proofs.read_u16.Reads as read-u16-reads
-use Rattle.fields.proofs.read_u64.Reads as read-u64-reads
-use Rattle.text.proofs.put_outputs.Reads as put-outputs-reads
-use Rattle.text.proofs.put_summary.Reads as put-summary-reads
 
--- src/lib.rt:89:13
 read-u16-requires : tie.Need-read-u16-requires
 read-u16-requires c κs = search needs
 
--- src/lib.rt:89:13
 cast-n : tie.Need-cast-n
 cast-n c = search needs
 
--- src/lib.rt:90:23
 read-u16-requires-2 : tie.Need-read-u16-requires-2
 read-u16-requires-2 c κs = search needs
 
--- src/lib.rt:90:23
 cast-evaluations : tie.Need-cast-evaluations
 cast-evaluations c = search needs
 
--- src/lib.rt:91:9
 read-u64-requires : tie.Need-read-u64-requires
 read-u64-requires c κs = search needs
 
--- src/lib.rt:92:9
 read-u64-requires-2 : tie.Need-read-u64-requires-2
 read-u64-requires-2 c κs = search needs
 
--- src/lib.rt:93:9
 read-u64-requires-3 : tie.Need-read-u64-requires-3
 read-u64-requires-3 c κs = search needs
 
--- src/lib.rt:94:9
 put-summary-requires : tie.Need-put-summary-requires
 put-summary-requires c κs = search needs
 
--- src/lib.rt:95:5
 put-outputs-requires : tie.Need-put-outputs-requires
 put-outputs-requires c κs = search needs
 
--- src/lib.rt:85:1
 same-length : tie.Need-same-length
 same-length c = search needs
 
--- src/lib.rt:85:1
 returns : tie.Need-returns
 returns c =
     let c₂ = c .before .before in
