@@ -15,7 +15,7 @@ use Rattle.rules.specs.declared.Dispatched.{Dispatched}
 
 -- ---- numbers (rule 15.4)
 
--- the last k decimal digits of n, without leading zeros
+-- the decimal digits of n without leading zeros; where n has more than k digits, the last k
 unfoldable pub digits : ℕ → ℕ → List ℕ
 digits zero n = []
 digits (suc k) n = cond (ltb n 10) ((48 + n) ∷ []) (digits k (n / 10) ++ ((48 + n % 10) ∷ []))
@@ -109,7 +109,7 @@ pub record Put (before : List ℕ) (at : ℕ) (put : List ℕ) (after : List ℕ
   pub ends : next ≡ at + length put
   pub whole : after ≡ take at before ++ (put ++ drop (at + length put) before)
 
--- ---- the text of U5's answer (rule 15.5), byte by byte: `units 1 evaluations 18 cost 119000 gap 42000 surplus 200000000`, then `1 7`
+-- ---- the text of U5's answer (rule 15.5), byte by byte, from the reply of Table's first row (bytes past the reply are not read): `units 1 evaluations 18 cost 119000 gap 42000 surplus 200000000`, then `1 7`
 u5-text : textOf (Dispatched.Replied 30) (over u5Reply (replicate 92 255)) ≡ 0x75 ∷ 0x6E ∷ 0x69 ∷ 0x74 ∷ 0x73 ∷ 0x20 ∷ 0x31 ∷ 0x20 ∷ 0x65 ∷ 0x76 ∷ 0x61 ∷ 0x6C ∷ 0x75 ∷ 0x61 ∷ 0x74 ∷ 0x69 ∷ 0x6F ∷ 0x6E ∷ 0x73 ∷ 0x20 ∷ 0x31 ∷ 0x38 ∷ 0x20 ∷ 0x63 ∷ 0x6F ∷ 0x73 ∷ 0x74 ∷ 0x20 ∷ 0x31 ∷ 0x31 ∷ 0x39 ∷ 0x30 ∷ 0x30 ∷ 0x30 ∷ 0x20 ∷ 0x67 ∷ 0x61 ∷ 0x70 ∷ 0x20 ∷ 0x34 ∷ 0x32 ∷ 0x30 ∷ 0x30 ∷ 0x30 ∷ 0x20 ∷ 0x73 ∷ 0x75 ∷ 0x72 ∷ 0x70 ∷ 0x6C ∷ 0x75 ∷ 0x73 ∷ 0x20 ∷ 0x32 ∷ 0x30 ∷ 0x30 ∷ 0x30 ∷ 0x30 ∷ 0x30 ∷ 0x30 ∷ 0x30 ∷ 0x30 ∷ 0x0A ∷ 0x31 ∷ 0x20 ∷ 0x37 ∷ 0x0A ∷ []
 unfolding u5Reply textOf replyText outputLines outputLine summaryLine decimal digits numberAfter
 u5-text = refl
