@@ -9,4 +9,6 @@ pub mod Bisection
 pub mod Calls
 pub mod Undoing
 pub mod Promise
+pub mod Cases
 pub mod Table
+pub mod TableOfRefusals
