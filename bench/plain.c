@@ -242,9 +242,10 @@ static enum refusal read_case(const uint8_t *file, size_t length, struct problem
 
 /* ---- cost, net and choice */
 
+/* A set that stands costs nothing. */
 static int64_t cost_of(const struct offer *o, int64_t p)
 {
-    return o->c0 + (o->c1 + o->c2 * p) * p;
+    return p == 0 ? 0 : o->c0 + (o->c1 + o->c2 * p) * p;
 }
 
 static int64_t net_of(const struct offer *o, int64_t p)
@@ -268,15 +269,15 @@ static int64_t clamp(int64_t p, int64_t low, int64_t high)
     return p < low ? low : p > high ? high : p;
 }
 
-/* The permitted output of least priced cost, the greatest on a tie. The part of the priced cost that is the same for every
- * output, 100,000 * c0, is left out. */
+/* The permitted output of least priced cost, the greatest on a tie. The part of the priced cost that is the same for every running
+ * output, 100,000 * c0, is left out; standing, the first region if it is one, is priced without it. */
 static int64_t choose(const struct offer *o, int64_t m)
 {
     int64_t square = PRICED_OF_COST * o->c2 + m * o->b;
     int64_t linear = PRICED_OF_COST * o->c1 - m * NET_OF_STEP;
     int64_t v = vertex(square, linear);
     int64_t best = clamp(v, o->regions[0].low, o->regions[0].high);
-    int64_t least = (square * best + linear) * best;
+    int64_t least = best == 0 ? -PRICED_OF_COST * o->c0 : (square * best + linear) * best;
     for (int32_t k = 1; k < o->region_count; k++) {
         int64_t p = clamp(v, o->regions[k].low, o->regions[k].high);
         int64_t priced = (square * p + linear) * p;

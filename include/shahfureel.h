@@ -82,16 +82,17 @@ extern "C" {
 
 /* ---- a row: the place of each number. Unit i of a list, counted from 0, starts at rows[SHAHFUREEL_ROW_NUMBERS * i].
  *
- * Outputs are in steps of 0.1 MW. At output p a unit costs c0 + c1 * p + c2 * p * p millionths of the currency per hour, and loses
- * b * p * p hundred-millionths of a step. So a set that costs A + B * P + C * P * P an hour and loses L * P * P MW, at P MW, has
- * c0 = 1,000,000 A, c1 = 100,000 B, c2 = 10,000 C, b = 10,000,000 L.
+ * Outputs are in steps of 0.1 MW. At a running output p a unit costs c0 + c1 * p + c2 * p * p millionths of the currency per hour;
+ * a unit that stands costs nothing, not even c0. It loses b * p * p hundred-millionths of a step. So a set that costs
+ * A + B * P + C * P * P an hour while it runs, and loses L * P * P MW, at P MW, has c0 = 1,000,000 A, c1 = 100,000 B, c2 = 10,000 C,
+ * b = 10,000,000 L.
  *
  * A running output lies from least to greatest and strictly inside no zone (both edges are permitted). If previous is above 0, a
  * running output also lies from previous - down to previous + up: 0 means that the set may not move that way, 10,000 that there
  * is no limit. If previous is 0, up and down are ignored. Output 0 is permitted exactly for a set that may stand, ramp or not. */
 
 enum shahfureel_row {
-    SHAHFUREEL_ROW_C0 = 0,                   /* cost: up to 1,000,000,000 */
+    SHAHFUREEL_ROW_C0 = 0,                   /* cost of running at all: up to 1,000,000,000 */
     SHAHFUREEL_ROW_C1 = 1,                   /* cost: up to 10,000,000 */
     SHAHFUREEL_ROW_C2 = 2,                   /* cost: up to 1,000 */
     SHAHFUREEL_ROW_B = 3,                    /* loss: up to 5,000 */

@@ -161,8 +161,23 @@ static void dispatch_replies(size_t alignment, size_t reply_room)
     expect(bytes_kept_but(reply, sizeof U5_REPLY), "dispatch", "it writes 28 + 2n bytes and no other");
 }
 
+/* U5 at demand 0 with a c0 of 50,000: it stands and costs nothing; if it must run it gives 2 and costs 50,000 and 24,000 */
+static void standing_costs_nothing(size_t a)
+{
+    const uint8_t *reply = byte_space + GUARD + a;
+    u5_but(7, 0);
+    case_file[14] = 0xC3;
+    case_file[15] = 0x50;
+    expect(dispatch(case_file, U5_BYTES, a, BYTES) == sizeof U5_REPLY, "dispatch", "a set that stands is replied");
+    expect(shahfureel_reply_output(reply, 0) == 0 && shahfureel_reply_cost(reply) == 0, "dispatch", "standing costs nothing");
+    case_file[35] = 1;
+    expect(dispatch(case_file, U5_BYTES, a, BYTES) == sizeof U5_REPLY, "dispatch", "a set that must run is replied");
+    expect(shahfureel_reply_output(reply, 0) == 2 && shahfureel_reply_cost(reply) == 74000, "dispatch", "running costs c0 too");
+}
+
 static void dispatching(size_t a)
 {
+    standing_costs_nothing(a);
     dispatch_replies(a, SHAHFUREEL_REPLY_BYTES);
     dispatch_replies(a, BYTES);
     dispatch_gives(u5(), U5_BYTES, a, 0, SHAHFUREEL_BUFFER_TOO_SHORT, "a reply of no byte is 1");

@@ -33,6 +33,7 @@ pub fn accepted_kinds() -> Vec<Kind> {
         kind("tied-outputs", 5, tied_outputs),
         kind("free-outputs", 3, free_outputs),
         kind("low-prices", 5, low_prices),
+        kind("standing-or-running", 6, standing_or_running),
         kind("single-point-windows", 6, single_point_windows),
         kind("zones-at-edges", 6, zones_at_edges),
         kind("four-zones", 3, four_zones),
@@ -279,6 +280,31 @@ fn free_outputs(random: &mut Random) -> Vec<Call> {
     }
     let case = with_demand(units, random);
     calls_of_case(&case, random)
+}
+
+/// Units that may stand, with constant costs of the size of what else they burn; the price at which one of them is as well off
+/// standing as running, and for one of them just so.
+fn standing_or_running(random: &mut Random) -> Vec<Call> {
+    let mut units: Vec<Unit> = (0..3).map(|_| small_unit(random)).collect();
+    for unit in &mut units {
+        unit.mark = 0;
+        let burnt = solver::cost(&Unit { c0: 0, ..unit.clone() }, unit.greatest);
+        unit.c0 = random.between(0, 2 * burnt + 1).min(1_000_000_000);
+    }
+    let tied_at = random.between(1, 90);
+    units[1].c0 = 1_000 * tied_at * units[1].greatest;
+    units[1].c1 = 0;
+    units[1].c2 = 0;
+    units[1].b = 0;
+    let case = with_demand(units.clone(), random);
+    let mut calls = calls_of_case(&case, random);
+    let unit = random.pick(&units);
+    let offer = solver::offers(&unit).pop().expect("a unit that may stand has an output");
+    let indifferent = solver::COST_SCALE * offer.cost / offer.net.max(1) + random.between(0, 1);
+    for price in [indifferent.min(solver::GREATEST_MULTIPLIER), tied_at] {
+        calls.push(Call::Price { multiplier: price as u32, file: solver::encode(&case) });
+    }
+    calls
 }
 
 /// Units so cheap that they change their choices between the multipliers 0 and 1, or soon after.

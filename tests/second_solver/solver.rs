@@ -232,7 +232,11 @@ pub fn permitted(unit: &Unit, output: i128) -> bool {
     within_limits && !in_a_zone && (unit.previous == 0 || within_ramp)
 }
 
+/// What a unit burns in an hour: nothing if it stands (rule 6.2).
 pub fn cost(unit: &Unit, output: i128) -> i128 {
+    if output == 0 {
+        return 0;
+    }
     unit.c0 + unit.c1 * output + unit.c2 * output * output
 }
 

@@ -28,6 +28,10 @@ fn u_must_run() -> Unit {
     Unit { mark: 1, ..u() }
 }
 
+fn with_c0(c0: i128) -> Unit {
+    Unit { c0, ..u() }
+}
+
 /// A unit of the greatest costs that loses so much at 10,000 steps that no multiplier makes it give all.
 pub fn lossy(b: i128) -> Unit {
     Unit { c1: 10_000_000, c2: 1_000, b, least: 9_000, greatest: 10_000, zones: vec![], ..u() }
@@ -109,6 +113,14 @@ pub fn further() -> Vec<Vector> {
         replied(2, vec![u()], Stated { evaluations: Some(16), gap: Some(0), outputs: vec![2], ..Stated::default() }),
         // the ramp applied to output 0
         replied(0, vec![Unit { previous: 10, ..u() }], Stated { cost: Some(0), outputs: vec![0], ..Stated::default() }),
+        // c0 charged to a unit that stands, and not to one that runs
+        replied(0, vec![with_c0(50_000)], whole(vec![0], 0, 0, 1, 0)),
+        replied(0, vec![Unit { c0: 50_000, ..u_must_run() }], whole(vec![2], 74_000, 0, 1, 200_000_000)),
+        // the unit with the larger c0 stands; with a small c0 it runs at its least
+        replied(7, vec![with_c0(5_000), with_c0(60_000)], whole(vec![7, 0], 124_000, 0, 15, 0)),
+        replied(4, vec![u(), with_c0(1_000)], whole(vec![2, 2], 49_000, 0, 17, 0)),
+        // c0 left out of the floor
+        replied(9, vec![with_c0(5_000), with_c0(60_000)], whole(vec![8, 8], 353_000, 179_000, 18, 700_000_000)),
         // 65,536 taken as covering: output 10,000 nets 7,200 steps with b 2,800 and 5,000 steps with b 5,000
         covered_by_no_choice(7_200, 2_800),
         covered_by_no_choice(5_000, 5_000),

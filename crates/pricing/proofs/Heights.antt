@@ -1,22 +1,23 @@
 -- A unit's coefficients in the arrays: the range of all that is computed of them, for `omega`, which bounds no product itself; and the curve that they make, which is the unit's priced cost and falls and rises by its steps.
-use mathlib.Core.Path.{_≡_, refl, ap, subst}
+use mathlib.Core.Path.{_≡_, refl, ap, subst, _∙_}
 use mathlib.Core.List.{List}
 use Prim.Native.Nat.{ℕ, _+_, _*_, _-_, _/_, _≤_, _<_}
 use native.Mathlib.Nat.{mul-le-mul, mul-le-mul-left, mul-le-mul-right, mul-div-le, lt-mul-div-succ, le-div-iff-mul-le, div-lt-iff-lt-mul}
-use native.Mathlib.Decide.{decLt}
+use native.Mathlib.Decide.{decLt, ℕ-discrete}
 use native.Mathlib.Omega.{arith}
-use lib.IntN.{ℤ, _-ℤ_}
+use lib.IntN.{ℤ, pos, _-ℤ_}
 use lib.Signed.{_≤ℤ_, _<ℤ_, ≤ℤ-refl}
+use borrow.Author.Tests.{ne-eqb}
 use mir.Syntax.{w64}
 use mir.Val.{SFits, toZ, ofZ}
 use Rattle.rules.specs.Unit.{Unit, cost, net}
 use Rattle.rules.specs.Choice.{pricedCost}
-use Rattle.rules.proofs.Integers.{Is, up, dn, is-sub, is-minus, cast, fits, kept, same, at-most, under, up-is, dn-is}
+use Rattle.rules.proofs.Integers.{Is, up, dn, is-pos, is-sub, is-minus, cast, fits, kept, same, at-most, under, up-is, dn-is}
 use Rattle.rules.proofs.Sound.{Sound}
-use Rattle.rules.proofs.Economics.Quantities.{cost-is, net-whole, priced-is}
+use Rattle.rules.proofs.Economics.Quantities.{cost-running, cost-standing, net-whole, priced-is}
 use Rattle.site.specs.Site.{c0At, c1At, c2At, bAt, Coefficients}
 use Rattle.pricing.specs.declared.Curve as code
-use Rattle.pricing.specs.Curve.{height, IsCurve, InRange, AtOutput, AtMultiplier}
+use Rattle.pricing.specs.Curve.{height, pricedAt, IsCurve, InRange, AtOutput, AtMultiplier}
 use Rattle.pricing.specs.Choosing.{Valley}
 
 -- ---- numbers in range
@@ -68,8 +69,8 @@ at-multiplier h = let l = limits (h .holds) in record { limits = l; few = h .few
 -- ---- cost and net, as they are computed
 
 module _ {coefficients : List ℕ} {i : ℕ} {u : Unit} (h : Coefficients coefficients i u) (p : ℕ) where
-  pub cost-computed : c0At coefficients i + (c1At coefficients i + c2At coefficients i * p) * p ≡ cost u p
-  cost-computed = rw (h .c0, h .c1, h .c2) (omega (arith, cost-is u p))
+  pub cost-computed : 1 ≤ p → c0At coefficients i + (c1At coefficients i + c2At coefficients i * p) * p ≡ cost u p
+  cost-computed k = rw (h .c0, h .c1, h .c2) (omega (arith, cost-running u p k))
 
   pub net-computed : p ≤ 10000 → (100000000 - bAt coefficients i * p) * p ≡ net u p
   net-computed k =
@@ -120,12 +121,29 @@ pub height-is : (c : code.Curve) (p : ℕ) → Is (height c p) (c .square * (p *
 unfolding height
 height-is c p = is-sub (c .square * (p * p) + up (c .linear) * p + c .constant) (dn (c .linear) * p)
 
--- it is the unit's priced cost
-pub priced-curve : {m : ℕ} {u : Unit} {c : code.Curve} → Sound u → IsCurve m u c → (p : ℕ) → p ≤ 10000 → height c p ≡ pricedCost m u p
-priced-curve {m} {u} {c} s k p h =
+pub priced-running : (c : code.Curve) (p : ℕ) → 1 ≤ p → pricedAt c p ≡ height c p
+unfolding pricedAt
+priced-running c p h = rw (ne-eqb p 0 (λ e. omega arith))
+
+pub priced-standing : (c : code.Curve) → pricedAt c 0 ≡ pos 0
+unfolding pricedAt
+priced-standing c = refl
+
+-- at a running output it is the unit's priced cost
+running-curve : {m : ℕ} {u : Unit} {c : code.Curve} → Sound u → IsCurve m u c → (p : ℕ) → 1 ≤ p → p ≤ 10000 → height c p ≡ pricedCost m u p
+running-curve {m} {u} {c} s k p l h =
     let linear : up (c .linear) * p + 100000000 * m * p ≡ 100000 * u .c1 * p + dn (c .linear) * p = omega (arith, ap (λ (n : ℕ). n * p) (k .linear .is)) in
     let square : c .square * (p * p) ≡ (100000 * u .c2 + m * u .b) * (p * p) = ap (λ (n : ℕ). n * (p * p)) (k .square) in
-    same (height-is c p) (priced-is m u p) (omega (arith, cost-is u p, ap (λ (n : ℕ). m * n) (net-whole s h), linear, square, k .constant))
+    same (height-is c p) (priced-is m u p) (omega (arith, cost-running u p l, ap (λ (n : ℕ). m * n) (net-whole s h), linear, square, k .constant))
+
+pub priced-curve : {m : ℕ} {u : Unit} {c : code.Curve} → Sound u → IsCurve m u c → (p : ℕ) → p ≤ 10000 → pricedAt c p ≡ pricedCost m u p
+priced-curve {m} {u} {c} s k p h = by (ℕ-discrete p 0)
+  where
+    by : Dec (p ≡ 0) → pricedAt c p ≡ pricedCost m u p
+    by (yes e) =
+        let none : net u 0 ≡ 0 = omega (arith, net-whole s {p = 0} (omega arith)) in
+        rw e (priced-standing c ∙ same (is-pos 0) (priced-is m u 0) (omega (arith, cost-standing u, ap (λ (n : ℕ). m * n) none)))
+    by (no n) = priced-running c p (omega arith) ∙ running-curve s k p (omega arith) h
 
 -- ---- its steps: it does not rise up to v, if the step into v does not, and rises from v, if the step out of v does
 

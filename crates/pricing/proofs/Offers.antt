@@ -1,5 +1,5 @@
 -- What is picked of an offer that the arrays hold: the choice in its regions is the offer's choice, and the end of the last region its greatest output.
-use mathlib.Core.Path.{_≡_, refl, sym, ap, _∙_}
+use mathlib.Core.Path.{_≡_, refl, ap}
 use mathlib.Core.List.{List, [], _∷_}
 use mathlib.Core.Logic.{inl, inr}
 use Prim.Native.Nat.{ℕ, _+_, _*_, _≤_, _<_}
@@ -10,25 +10,16 @@ use Rattle.rules.specs.Problem.{Offer, Problem, target}
 use Rattle.rules.specs.Choice.{pricedCost, choice, choices, dualValue}
 use Rattle.rules.proofs.Lists.{Every, every-from}
 use Rattle.rules.proofs.Integers.{Is, same}
-use Rattle.rules.proofs.Economics.Chosen.{Chosen, Among, some-among, unique, alike, scanned}
+use Rattle.rules.proofs.Economics.Chosen.{Chosen, Among, some-among, unique, alike, agreed, scanned}
 use Rattle.rules.proofs.Economics.Allocations.{Proper, dual-is, at-most-greatest}
 use Rattle.site.specs.Site.{first, last, high, Within, noOffer, HoldsOffer, HoldsProblem}
 use Rattle.pricing.specs.declared.Curve as code
-use Rattle.pricing.specs.Curve.{height, IsCurve, InRange}
+use Rattle.pricing.specs.Curve.{pricedAt, IsCurve, InRange}
 use Rattle.pricing.specs.Choosing.{Choosable}
 use Rattle.pricing.specs.declared.Sums as code-sums
 use Rattle.pricing.specs.Totals.{Allocates}
 use Rattle.pricing.proofs.Heights.{priced-curve}
 use Rattle.pricing.proofs.Regions.{small, to-highest, highest}
-
--- functions that agree on the candidates choose alike
-agreed : {f g : ℕ → ℤ} {C : ℕ → Type 0} {r : ℕ} → ((p : ℕ) → C p → f p ≡ g p) → Chosen f C r → Chosen g C r
-agreed {f} {g} {C} {r} e c =
-    record {
-      candidate = c .candidate;
-      least = λ p i. rw (← e r (c .candidate), ← e p i) (c .least p i);
-      last = λ p i k. c .last p i (e p i ∙ k ∙ sym (e r (c .candidate)));
-    }
 
 greatest-at-most : (x : ℕ) (ps : List ℕ) → ((p : ℕ) → Among p ps → p ≤ x) → greatest ps ≤ x
 greatest-at-most x [] h = omega arith
@@ -39,7 +30,7 @@ module _ {coefficients ends ranges : List ℕ} {i : ℕ} {o : Offer} (h : HoldsO
   choosable l c = record { few = omega (arith, h .to); regions = h .regions; curve = c }
 
   module _ {r : ℕ} where
-    pub choice-held : {m : ℕ} {c : code.Curve} → IsCurve m (o .unit) c → Chosen (height c) (Within ends (first ranges i) (last ranges i)) r → r ≡ choice m o
+    pub choice-held : {m : ℕ} {c : code.Curve} → IsCurve m (o .unit) c → Chosen (pricedAt c) (Within ends (first ranges i) (last ranges i)) r → r ≡ choice m o
     choice-held {m} {c} k d =
         let of-list : Chosen (pricedCost m (o .unit)) (λ p. Among p (o .outputs)) r = alike (λ p w. h .outputs p .1 w) (λ p a. h .outputs p .0 a) (agreed (λ p w. priced-curve (h .unit .sound) k p (small (h .regions) p w)) d) in
         unique of-list (scanned (pricedCost m (o .unit)) (o .outputs) (h .proper .ascends) (some-among r (o .outputs) (of-list .candidate)))

@@ -10,13 +10,13 @@ use lib.ListN.{getD}
 use lib.Signed.{_≤ℤ_, _<ℤ_}
 use Rattle.rules.specs.Choice.{better}
 use Rattle.rules.proofs.Integers.{up, dn}
-use Rattle.rules.proofs.Economics.Chosen.{Chosen, alike, single, first, second}
+use Rattle.rules.proofs.Economics.Chosen.{Chosen, alike, agreed, single, first, second}
 use Rattle.site.specs.Site.{low, high, Within, Regions}
 use Rattle.pricing.specs.declared.Curve as code
-use Rattle.pricing.specs.Curve.{height}
+use Rattle.pricing.specs.Curve.{height, pricedAt}
 use Rattle.pricing.specs.Choosing.{Reaching, Running, Beside, Choosable}
 use Rattle.pricing.proofs.Valley.{last-before, first-behind, beside, at-vertex}
-use Rattle.pricing.proofs.Heights.{valley}
+use Rattle.pricing.proofs.Heights.{valley, priced-running}
 
 module _ {ends : List ℕ} {begin end : ℕ} (r : Regions ends begin end) where
   -- ---- ends of regions rise
@@ -119,6 +119,10 @@ module _ {ends : List ℕ} {begin end : ℕ} {c : code.Curve} (u : Running ends 
   pub before-lowest : c .square + dn (c .linear) < 2 * (c .square * low ends begin) + up (c .linear) → Chosen (height c) (Within ends begin end) (low ends begin)
   before-lowest h = first-behind (valley c {from = low ends begin} {to = high ends end} {v = low ends begin} (λ l. absurd (omega arith)) (λ _. omega arith)) (from-lowest g) (to-highest g) (low ends begin) (lowest g) (omega arith) (from-lowest g)
 
+  -- what is chosen by the curve is chosen by the priced cost
+  pub running-chosen : {r : ℕ} → Chosen (height c) (Within ends begin end) r → Chosen (pricedAt c) (Within ends begin end) r
+  running-chosen k = agreed (λ p w. sym (priced-running c p (omega (arith, from-lowest g p w, u .runs)))) k
+
 -- ---- standing, and running
 
 module _ {ends : List ℕ} {begin end : ℕ} {c : code.Curve} (u : Choosable ends begin end c) where
@@ -142,7 +146,7 @@ module _ {ends : List ℕ} {begin end : ℕ} {c : code.Curve} (u : Choosable end
     nothing-below : low ends begin ≡ 0
     nothing-below = omega (arith, s .order begin (omega arith) (s .some))
 
-    pub only-stands : begin ≡ end → Chosen (height c) (Within ends begin end) 0
+    pub only-stands : {f : ℕ → ℤ} → begin ≡ end → Chosen f (Within ends begin end) 0
     only-stands e = alike into back (single 0)
       where
         into : (p : ℕ) → p ≡ 0 → Within ends begin end p
@@ -182,9 +186,9 @@ module _ {ends : List ℕ} {begin end : ℕ} {c : code.Curve} (u : Choosable end
       positive : (p q : ℕ) → p ≡ 0 → Within ends (begin + 1) end q → p < q
       positive p q e w = omega (arith, from-lowest (behind-standing .regions) q w, behind-standing .runs)
 
-      module _ {p : ℕ} (k : Chosen (height c) (Within ends (begin + 1) end) p) where
-        pub stands-better : height c 0 <ℤ height c p → Chosen (height c) (Within ends begin end) 0
+      module _ {f : ℕ → ℤ} {p : ℕ} (k : Chosen f (Within ends (begin + 1) end) p) where
+        pub stands-better : f 0 <ℤ f p → Chosen f (Within ends begin end) 0
         stands-better h = alike into back (first (single 0) k positive h)
 
-        pub runs-better : height c p ≤ℤ height c 0 → Chosen (height c) (Within ends begin end) p
+        pub runs-better : f p ≤ℤ f 0 → Chosen f (Within ends begin end) p
         runs-better h = alike into back (second (single 0) k positive h)

@@ -1,8 +1,10 @@
--- A unit's priced cost at a multiplier as a curve, square × p² + linear × p + constant. Of the definitions this alone says which coefficients it is made of.
+-- A unit's priced cost at a multiplier, on running outputs, as a curve, square × p² + linear × p + constant. Of the definitions this alone says which coefficients it is made of.
 use Prim.Native.Nat.{ℕ, _+_, _*_, _≤_, _<_}
 use mathlib.Core.Path.{_≡_}
+use mathlib.Core.Bool.{cond}
 use mathlib.Core.List.{List}
-use lib.IntN.{ℤ, subℕ}
+use lib.Dec.{eqb}
+use lib.IntN.{ℤ, pos, subℕ}
 use Rattle.rules.specs.Unit.{Unit}
 use Rattle.rules.proofs.Integers.{up, dn, Is}
 use Rattle.site.specs.Site.{Coefficients}
@@ -12,7 +14,11 @@ use Rattle.pricing.specs.declared.Curve.{Curve}
 unfoldable pub height : Curve → ℕ → ℤ
 height c p = subℕ (c .square * (p * p) + up (c .linear) * p + c .constant) (dn (c .linear) * p)
 
--- the curve of unit u at m: 100,000 × cost − m × net, by powers of p
+-- a unit's priced cost by its curve: the curve's value at a running output, nothing where it stands (rule 6.2)
+unfoldable pub pricedAt : Curve → ℕ → ℤ
+pricedAt c p = cond (eqb p 0) (pos 0) (height c p)
+
+-- the curve of unit u at m: 100,000 × cost − m × net of a running output, by powers of p
 pub record IsCurve (m : ℕ) (u : Unit) (c : Curve) : Type 0 where
   pub square : c .square ≡ 100000 * u .c2 + m * u .b
   pub linear : Is (c .linear) (100000 * u .c1) (100000000 * m)

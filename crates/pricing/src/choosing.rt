@@ -5,7 +5,7 @@ ghost use Prim.Native.Nat.{_+_, _≤_, _<_};
 ghost use Rattle.rules.specs.Choice.{better as later·of};
 ghost use Rattle.rules.proofs.Economics.Chosen.{Chosen};
 ghost use Rattle.site.specs.Site.{high, Within};
-ghost use Rattle.pricing.specs.Curve.{height, InRange};
+ghost use Rattle.pricing.specs.Curve.{height, pricedAt, InRange};
 ghost use Rattle.pricing.specs.Choosing.{Places, Reaching, Running, Beside, Choosable};
 use crate::Curve;
 use crate::units::priced_cost;
@@ -86,10 +86,10 @@ fn first_running(ends: &[u16; 384], first: usize) -> usize
     first
 }
 
-// The choice among the regions `first`..=`last`.
+// The choice among the regions `first`..=`last`; standing costs nothing.
 pub fn choose(ends: &[u16; 384], first: usize, last: usize, c: Curve) -> u16
     requires { ⌜ Choosable (now ends) first last c ⌝ }
-    ensures { λ r. ⌜ Chosen (height c) (Within (now (ends .entry)) first last) r ⌝ }
+    ensures { λ r. ⌜ Chosen (pricedAt c) (Within (now (ends .entry)) first last) r ⌝ }
 {
     let from = first_running(ends, first);
     if from > last {
@@ -99,7 +99,7 @@ pub fn choose(ends: &[u16; 384], first: usize, last: usize, c: Curve) -> u16
     if from == first {
         return running;
     }
-    if priced_cost(c, running) > c.constant as i64 {
+    if priced_cost(c, running) > 0 {
         return 0;
     }
     running

@@ -13,7 +13,7 @@ pub use totals::dual_of;
 pub use totals::evaluate;
 pub use totals::floor_of;
 
-// A unit's priced cost at a multiplier: square × p × p + linear × p + constant at output p.
+// A unit's priced cost at a multiplier: square × p × p + linear × p + constant at a running output p.
 pub struct Curve {
     pub square: u64,
     pub linear: i64,

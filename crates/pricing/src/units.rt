@@ -6,11 +6,14 @@ ghost use Rattle.site.specs.Site.{Coefficients};
 ghost use Rattle.pricing.specs.Curve.{height, InRange, AtOutput, AtMultiplier, IsCurve};
 use crate::Curve;
 
-// The cost of unit `i` at output `p`.
+// The cost of unit `i` at output `p`: nothing where it stands.
 pub fn cost_of(coefficients: &[u64; 128], i: usize, p: u16) -> u64
     requires { ⌜ AtOutput (now coefficients) i p ⌝ }
     ensures { λ r. ⌜ ((u : Unit) → Coefficients (now (coefficients .entry)) i u → r ≡ cost u p) ⌝ }
 {
+    if p == 0 {
+        return 0;
+    }
     let k = 4 * i;
     let x = p as u64;
     coefficients[k] + (coefficients[k + 1] + coefficients[k + 2] * x) * x
@@ -25,7 +28,7 @@ pub fn net_of(coefficients: &[u64; 128], i: usize, p: u16) -> u64
     (100000000 - coefficients[4 * i + 3] * x) * x
 }
 
-// The priced cost of unit `i` at multiplier `m`.
+// The priced cost of unit `i` at multiplier `m`, where it runs.
 pub fn curve_of(coefficients: &[u64; 128], i: usize, m: u64) -> Curve
     requires { ⌜ AtMultiplier (now coefficients) i m ⌝ }
     ensures { λ r. ⌜ InRange r × ((u : Unit) → Coefficients (now (coefficients .entry)) i u → IsCurve m u r) ⌝ }
@@ -38,7 +41,7 @@ pub fn curve_of(coefficients: &[u64; 128], i: usize, m: u64) -> Curve
     }
 }
 
-// The priced cost at output `p`.
+// The priced cost at a running output `p`.
 pub fn priced_cost(c: Curve, p: u16) -> i64
     requires { ⌜ InRange c × (p ≤ 10000) ⌝ }
     ensures { λ r. ⌜ r ≡ height c p ⌝ }

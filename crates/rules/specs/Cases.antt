@@ -242,6 +242,24 @@ marked mark previous up down = unit 10000 1000 0 previous up down mark 4 7
 unfoldable pub zoned : ℕ → ℕ → Unit
 zoned lower upper = unit 10000 1000 0 0 0 0 0 lower upper
 
+-- U with other costs and another mark
+unfoldable pub costing : ℕ → ℕ → ℕ → ℕ → Unit
+costing c0 c1 c2 mark =
+    record {
+      c0 = c0;
+      c1 = c1;
+      c2 = c2;
+      b = 0;
+      least = 2;
+      greatest = 10;
+      previous = 0;
+      up = 0;
+      down = 0;
+      mark = mark;
+      zoneCount = 1;
+      edges = 4 ∷ 7 ∷ 0 ∷ 0 ∷ 0 ∷ 0 ∷ 0 ∷ 0 ∷ [];
+    }
+
 -- U up to 20, with zones 4 to 7 and 7 to 9
 unfoldable pub sharedEdge : Unit
 sharedEdge =

@@ -1,5 +1,5 @@
 -- Rules 17.1 and 17.3 of docs/SPECIFICATION.md: the example cases and both pricings as one table, `table`, from the file's bytes to the reply's, and one theorem.
--- The other lists tell apart rules which that table does not: `further` (dispatches, pricings, packings, unpackings), `panelForms` (the calls as C sees them), `searches` (steps 2 to 4 by themselves). Above each of their rows stands the wrong rule that it shows.
+-- The other lists tell apart rules which that table does not: `further` (dispatches, pricings, packings, unpackings), `standing` (what a unit costs that stands), `panelForms` (the calls as C sees them), `searches` (steps 2 to 4 by themselves). Above each of their rows stands the wrong rule that it shows.
 use Prim.Native.Nat.{_+_}
 use mathlib.Core.Bool.{true, false}
 use mathlib.Core.List.{List, [], _∷_, _++_, map}
@@ -8,7 +8,7 @@ use lib.IntN.{pos, negℤ}
 use lib.ListN.{replicate, drop}
 use Rattle.rules.specs.Lists.{each, over}
 use Rattle.rules.specs.Layout.{fileOf}
-use Rattle.rules.specs.Cases.{Row, answer, buffer, reply, u5, u5Reply, site, siteReply, u10Reply, rowOfU, rowsOfSite, put, shortHead, otherEdition, noUnit, demandAbove, byteTooMany, noZone, linearCostAbove, edgeAtLeast, otherMark, largestLosses, rowsBuffer, answers, unit, U, lossy, priced-at, marked, zoned, dispatch, price, pack, check, dispatchInto, packInto, unpackInto, panelDispatch, panelPrice, panelPack, panelUnpack, allocate, searchFor, solveOffers, writes, refuses, values, checks, reads, returns, allocates, finds, solves}
+use Rattle.rules.specs.Cases.{Row, answer, buffer, reply, u5, u5Reply, site, siteReply, u10Reply, rowOfU, rowsOfSite, put, shortHead, otherEdition, noUnit, demandAbove, byteTooMany, noZone, linearCostAbove, edgeAtLeast, otherMark, largestLosses, rowsBuffer, answers, unit, U, lossy, priced-at, marked, zoned, costing, dispatch, price, pack, check, dispatchInto, packInto, unpackInto, panelDispatch, panelPrice, panelPack, panelUnpack, allocate, searchFor, solveOffers, writes, refuses, values, checks, reads, returns, allocates, finds, solves}
 
 unfoldable pub table : List Row
 table =
@@ -53,8 +53,8 @@ further =
     ∷ record { call = dispatch (fileOf 0 (marked 1 5 0 10 ∷ [])); result = reply (2 ∷ []) 24000 0 1 200000000 }
     -- the ramp window up to previous + up + 1
     ∷ record { call = dispatch (site 27); result = refuses 11 buffer }
-    -- c0 left out, or at output 0
-    ∷ record { call = dispatch (site 0); result = reply (7 ∷ 0 ∷ []) 169007 0 1 699999853 }
+    -- c0 left out where a unit runs, or charged where it stands
+    ∷ record { call = dispatch (site 0); result = reply (7 ∷ 0 ∷ []) 169000 0 1 699999853 }
     -- the second zone left out, or one kind of unit
     ∷ record { call = dispatch (site 23); result = reply (13 ∷ 12 ∷ []) 626747 67999 18 199999349 }
     -- the evaluations 18 in the bytes of each reply
@@ -87,6 +87,29 @@ further =
     ∷ record { call = allocate (U ∷ U ∷ []) (3 ∷ 4 ∷ 0 ∷ []); result = allocates false }
     -- permitted outputs not allocated
     ∷ record { call = allocate (U ∷ U ∷ []) (3 ∷ 4 ∷ []); result = allocates true }
+    ∷ []
+
+-- A unit that stands costs nothing (rule 6.2, since S-1).
+unfoldable pub standing : List Row
+standing =
+    -- c0 charged to a unit that stands
+    record { call = dispatch (fileOf 0 (costing 50000 10000 1000 0 ∷ [])); result = reply (0 ∷ []) 0 0 1 0 }
+    -- c0 left out of what a unit that must run costs
+    ∷ record { call = dispatch (fileOf 0 (costing 50000 10000 1000 1 ∷ [])); result = reply (2 ∷ []) 74000 0 1 200000000 }
+    -- c0 left out of the choice: both would run
+    ∷ record { call = dispatch (fileOf 7 (costing 5000 10000 1000 0 ∷ costing 60000 10000 1000 0 ∷ [])); result = reply (7 ∷ 0 ∷ []) 124000 0 15 0 }
+    -- the same, or the first unit preferred
+    ∷ record { call = dispatch (fileOf 7 (costing 60000 10000 1000 0 ∷ costing 5000 10000 1000 0 ∷ [])); result = reply (0 ∷ 7 ∷ []) 124000 0 15 0 }
+    -- whatever has a c0 stands where others can cover: running at its least, 25,000, it saves 32,000 of what U would cost at 4
+    ∷ record { call = dispatch (fileOf 4 (U ∷ costing 1000 10000 1000 0 ∷ [])); result = reply (2 ∷ 2 ∷ []) 49000 0 17 0 }
+    -- c0 of the units that stand in the floor
+    ∷ record { call = dispatch (fileOf 9 (costing 5000 10000 1000 0 ∷ costing 60000 10000 1000 0 ∷ [])); result = reply (8 ∷ 8 ∷ []) 353000 179000 18 700000000 }
+    -- c0 of a unit that stands in the dual value, or none of one that runs: 8 and 0 are chosen
+    ∷ record { call = price (fileOf 9 (costing 5000 10000 1000 0 ∷ costing 60000 10000 1000 0 ∷ [])) 25; result = values (pos 17400000000) false }
+    -- c0 in the dual value where nothing runs
+    ∷ record { call = price (fileOf 5 (costing 50000 10000 1000 0 ∷ [])) 0; result = values (pos 0) false }
+    -- standing preferred on a tie with running
+    ∷ record { call = price (fileOf 5 (costing 10000 0 0 0 ∷ [])) 1; result = values (pos 500000000) true }
     ∷ []
 
 unfoldable pub panelForms : List Row
@@ -154,6 +177,10 @@ table-holds = refl
 pub further-holds : map (λ r. answer (r .call)) further ≡ map (λ r. r .result) further
 unfolding answer further u5 u5Reply u10Reply site siteReply rowOfU rowsOfSite U lossy priced-at marked
 further-holds = refl
+
+pub standing-holds : map (λ r. answer (r .call)) standing ≡ map (λ r. r .result) standing
+unfolding answer standing U costing
+standing-holds = refl
 
 pub panel-forms-hold : map (λ r. answer (r .call)) panelForms ≡ map (λ r. r .result) panelForms
 unfolding answer panelForms u5 shortHead otherEdition noUnit demandAbove byteTooMany noZone linearCostAbove edgeAtLeast otherMark u5Reply site rowOfU rowsOfSite

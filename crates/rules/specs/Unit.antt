@@ -54,9 +54,9 @@ runningOutput u p =
 unfoldable pub permitted : Unit → ℕ → Bool
 permitted u p = cond (eqb p 0) (eqb (u .mark) 0) (runningOutput u p)
 
--- (rules 6.1, 6.2) the cost of a unit at an output, standing too, in millionths of the currency per hour
+-- (rules 6.1, 6.2) the cost of a unit at an output, in millionths of the currency per hour; a unit that stands costs nothing (since S-1)
 unfoldable pub cost : Unit → ℕ → ℕ
-cost u p = u .c0 + u .c1 * p + u .c2 * p * p
+cost u p = cond (eqb p 0) 0 (u .c0 + u .c1 * p + u .c2 * p * p)
 
 -- (rule 7.1) the net of a unit: its output after losses, in hundred-millionths of a step
 -- (The difference of naturals stops at 0; in an accepted file it never does: `Quantities.net-whole`.)

@@ -1,5 +1,5 @@
 -- The choice (rule 9.3), least priced cost and the greatest output on a tie: what that is of any candidates, that there is only one, and that the scan of `Choice` finds it.
-use mathlib.Core.Path.{_≡_, refl, sym, subst}
+use mathlib.Core.Path.{_≡_, refl, sym, subst, _∙_}
 use mathlib.Core.Bool.{Bool, true, false, cond}
 use mathlib.Core.List.{List, [], _∷_}
 use mathlib.Core.Logic.{_⊎_, inl, inr}
@@ -33,6 +33,15 @@ alike {r = r} into back c =
       candidate = into r (c .candidate);
       least = λ p d. c .least p (back p d);
       last = λ p d. c .last p (back p d);
+    }
+
+-- functions that agree on the candidates choose alike
+pub agreed : {f g : ℕ → ℤ} {C : ℕ → Type 0} {r : ℕ} → ((p : ℕ) → C p → f p ≡ g p) → Chosen f C r → Chosen g C r
+agreed {f} {g} {C} {r} e c =
+    record {
+      candidate = c .candidate;
+      least = λ p i. rw (← e r (c .candidate), ← e p i) (c .least p i);
+      last = λ p i k. c .last p i (e p i ∙ k ∙ sym (e r (c .candidate)));
     }
 
 pub single : {f : ℕ → ℤ} (q : ℕ) → Chosen f (λ p. p ≡ q) q

@@ -1,16 +1,21 @@
--- The range of every quantity of a sound unit at an output up to its greatest, and that net grows with the output. This file alone looks at what cost and net are made of; others cite `cost-is` and `net-is`.
+-- The range of every quantity of a sound unit at an output up to its greatest, and that net grows with the output. This file alone looks at what cost and net are made of; others cite `cost-running`, `cost-standing` and `net-is`.
 use mathlib.Core.Path.{_≡_, refl}
 use Prim.Native.Nat.{ℕ, zero, suc, _+_, _*_, _-_, _≤_}
 use native.Mathlib.Nat.{add-zero, le-refl, mul-le-mul, mul-le-mul-right}
 use native.Mathlib.Omega.{arith}
+use borrow.Author.Tests.{ne-eqb}
 use Rattle.rules.specs.Unit.{Unit, cost, net}
 use Rattle.rules.specs.Choice.{pricedCost}
 use Rattle.rules.proofs.Integers.{Is, is-sub}
 use Rattle.rules.proofs.Sound.{Sound}
 
-pub cost-is : (u : Unit) (p : ℕ) → cost u p ≡ u .c0 + u .c1 * p + u .c2 * p * p
+pub cost-running : (u : Unit) (p : ℕ) → 1 ≤ p → cost u p ≡ u .c0 + u .c1 * p + u .c2 * p * p
 unfolding cost
-cost-is u p = refl
+cost-running u p h = rw (ne-eqb p 0 (λ e. omega arith))
+
+pub cost-standing : (u : Unit) → cost u 0 ≡ 0
+unfolding cost
+cost-standing u = refl
 
 pub net-is : (u : Unit) (p : ℕ) → net u p ≡ 100000000 * p - u .b * p * p
 unfolding net
@@ -37,8 +42,11 @@ module _ {u : Unit} (s : Sound u) {p : ℕ} (h : p ≤ 10000) where
   net-whole = omega (arith, products .loss)
 
   pub cost-range : cost u p ≤ 201000000000
-  unfolding cost
-  cost-range = omega (arith, products .linear, products .quadratic, s .c0)
+  cost-range = by p (products .linear) (products .quadratic)
+    where
+      by : (p : ℕ) → u .c1 * p ≤ 100000000000 → u .c2 * p * p ≤ 100000000000 → cost u p ≤ 201000000000
+      by zero l q = omega (arith, cost-standing u)
+      by (suc n) l q = omega (arith, cost-running u (suc n) (omega arith), l, q, s .c0)
 
   pub net-range : net u p ≤ 1000000000000
   net-range = omega (arith, net-whole)

@@ -1,6 +1,6 @@
--- `pricing::choosing::choose` meets its contract: it stands or runs (`Regions`), and standing costs the curve's constant.
+-- `pricing::choosing::choose` meets its contract: it stands or runs (`Regions`), and standing costs nothing.
 use Prim.Native.Nat.{ℕ, _+_, _≤_, _<_}
-use mathlib.Core.Path.{_≡_, _∙_, subst, subst⁻¹}
+use mathlib.Core.Path.{_≡_, sym, _∙_, subst, subst⁻¹}
 use native.Mathlib.Decide.{ℕ-discrete}
 use native.Mathlib.Omega.{arith}
 use mir.Syntax.{w64}
@@ -8,13 +8,13 @@ use mir.Val.{toZ, ofZ}
 use mir.Facts.{toZ-ofZ}
 use denote.Ref.{now}
 use borrow.Author.Needs.{needs}
-use Rattle.rules.proofs.Integers.{Is, cast, is-same, when-lt, when-ge, at-most, under}
+use Rattle.rules.proofs.Integers.{Is, itself, is-pos, is-same, when-lt, when-ge, at-most, under}
 use Rattle.rules.proofs.Economics.Chosen.{Chosen}
 use Rattle.site.specs.Site.{high, Within}
-use Rattle.pricing.specs.Curve.{height}
+use Rattle.pricing.specs.Curve.{pricedAt}
 use Rattle.pricing.specs.Choosing.{Running}
-use Rattle.pricing.proofs.Heights.{height-is}
-use Rattle.pricing.proofs.Regions.{small, runs, only-stands, behind-standing, stands-better, runs-better}
+use Rattle.pricing.proofs.Heights.{priced-running, priced-standing}
+use Rattle.pricing.proofs.Regions.{small, from-lowest, runs, running-chosen, only-stands, behind-standing, stands-better, runs-better}
 use Rattle.pricing.proofs.choosing.choose.Statement.{statement}
 use Rattle.pricing.proofs.choosing.choose.Tie as tie
 
@@ -31,12 +31,12 @@ returns c =
     let s = f .before in
     by c (stands? s)
   where
-    by : (c : tie.Then1) → let s = c .before .before in Dec (high (now (s .args .ends)) (s .args .first) ≡ 0) → Chosen (height (s .args .c)) (Within (now (s .args .ends)) (s .args .first) (s .args .last)) 0
+    by : (c : tie.Then1) → let s = c .before .before in Dec (high (now (s .args .ends)) (s .args .first) ≡ 0) → Chosen (pricedAt (s .args .c)) (Within (now (s .args .ends)) (s .args .first) (s .args .last)) 0
     by c (yes z) = only-stands (c .before .before .pre) z (omega (arith, c .before .first-running .ensures .0 z, c .before .before .pre .regions .some))
     by c (no n) = absurd (omega (arith, c .before .first-running .ensures .1 n, c .before .before .pre .regions .some))
 
-choose-running-requires : tie.Need-choose-running-requires
-choose-running-requires c κs = by c (stands? (c .before .before))
+running : (c : tie.Else1) → let s = c .before .before in Running (now (s .args .ends)) (c .before .first-running .result) (s .args .last) (s .args .c)
+running c = by c (stands? (c .before .before))
   where
     by : (c : tie.Else1) → let s = c .before .before in Dec (high (now (s .args .ends)) (s .args .first) ≡ 0) → Running (now (s .args .ends)) (c .before .first-running .result) (s .args .last) (s .args .c)
     by c (yes z) =
@@ -47,10 +47,17 @@ choose-running-requires c κs = by c (stands? (c .before .before))
         let s = c .before .before in
         subst⁻¹ (λ (m : ℕ). Running (now (s .args .ends)) m (s .args .last) (s .args .c)) (c .before .first-running .ensures .1 n) (runs (s .pre) n)
 
+choose-running-requires : tie.Need-choose-running-requires
+choose-running-requires c κs = running c
+
+-- the choice among running outputs, by priced cost, where they begin at region n
+chosen-from : (c : tie.After-choose-running) → let s = c .before .before .before in (n : ℕ) → c .before .before .first-running .result ≡ n → Chosen (pricedAt (s .args .c)) (Within (now (s .args .ends)) n (s .args .last)) (c .choose-running .result)
+chosen-from c n e =
+    let s = c .before .before .before in
+    subst (λ (n : ℕ). Chosen (pricedAt (s .args .c)) (Within (now (s .args .ends)) n (s .args .last)) (c .choose-running .result)) e (running-chosen (running (c .before)) (c .choose-running .ensures))
+
 returns-2 : tie.Need-returns-2
-returns-2 c =
-    let s = c .before .before .before .before in
-    subst (λ (n : ℕ). Chosen (height (s .args .c)) (Within (now (s .args .ends)) n (s .args .last)) (c .before .choose-running .result)) (c .if2 .taken) (c .before .choose-running .ensures)
+returns-2 c = chosen-from (c .before) _ (c .if2 .taken)
 
 -- ---- it may stand, and runs behind that region
 
@@ -74,40 +81,38 @@ module _ (c : tie.Else2) where
   more : s .args .first < s .args .last
   more = omega (arith, next, c .before .before .if1 .left)
 
-  chosen : Chosen (height (s .args .c)) (Within (now (s .args .ends)) (s .args .first + 1) (s .args .last)) p
-  chosen = subst (λ (n : ℕ). Chosen (height (s .args .c)) (Within (now (s .args .ends)) n (s .args .last)) p) next (c .before .choose-running .ensures)
+  chosen : Chosen (pricedAt (s .args .c)) (Within (now (s .args .ends)) (s .args .first + 1) (s .args .last)) p
+  chosen = chosen-from (c .before) _ next
+
+  runs-at-all : 1 ≤ p
+  runs-at-all = let k = behind-standing (s .pre) stands more in omega (arith, from-lowest (k .regions) p (chosen .candidate), k .runs)
 
   output : p ≤ 10000
   output = small (behind-standing (s .pre) stands more .regions) p (chosen .candidate)
 
+  standing-is : Is (pricedAt (s .args .c) 0) 0 0
+  standing-is = is-same (priced-standing (s .args .c)) (is-pos 0)
+
 priced-cost-requires : tie.Need-priced-cost-requires
 priced-cost-requires c κs = (s c .pre .curve, output c)
 
-cast-if3 : tie.Need-cast-if3
-cast-if3 c = search needs
-
--- the running unit's priced cost, as it is read, and that of standing
-running-read : (c : tie.After-priced-cost) → toZ w64 (ofZ w64 (c .priced-cost .result)) ≡ height (s (c .before) .args .c) (p (c .before))
-running-read c = toZ-ofZ {w = w64} (search needs) ∙ c .priced-cost .ensures
-
-standing-read : (c : tie.After-priced-cost) → Is (toZ w64 (s (c .before) .args .c .constant)) (s (c .before) .args .c .constant) 0
-standing-read c = cast (s (c .before) .args .c .constant) (omega (arith, s (c .before) .pre .curve .constant))
+-- the running unit's priced cost, as it is read
+running-read : (c : tie.After-priced-cost) → toZ w64 (ofZ w64 (c .priced-cost .result)) ≡ pricedAt (s (c .before) .args .c) (p (c .before))
+running-read c = toZ-ofZ {w = w64} (search needs) ∙ c .priced-cost .ensures ∙ sym (priced-running (s (c .before) .args .c) (p (c .before)) (runs-at-all (c .before)))
 
 returns-3 : tie.Need-returns-3
 returns-3 c =
-    let h = c .before .before in
+    let h = c .before in
     let e = h .before in
-    let k = s e .args .c in
     stands-better (s e .pre) (stands e) (more e) (chosen e)
-    (under (height-is k 0) (height-is k (p e)) (omega (arith, when-lt (standing-read h) (is-same (running-read h) (height-is k (p e))) (c .if3 .taken))))
+    (under (standing-is e) (itself (pricedAt (s e .args .c) (p e))) (when-lt (is-pos 0) (is-same (running-read h) (itself _)) (c .if3 .taken)))
 
 returns-4 : tie.Need-returns-4
 returns-4 c =
-    let h = c .before .before in
+    let h = c .before in
     let e = h .before in
-    let k = s e .args .c in
     runs-better (s e .pre) (stands e) (more e) (chosen e)
-    (at-most (height-is k (p e)) (height-is k 0) (omega (arith, when-ge (standing-read h) (is-same (running-read h) (height-is k (p e))) (c .if3 .left))))
+    (at-most (itself (pricedAt (s e .args .c) (p e))) (standing-is e) (when-ge (is-pos 0) (is-same (running-read h) (itself _)) (c .if3 .left)))
 
 pub choose-spec : {M : Type 1} → statement M
 choose-spec =
@@ -118,6 +123,5 @@ choose-spec =
     choose-running-requires
     returns-2
     priced-cost-requires
-    cast-if3
     returns-3
     returns-4)

@@ -1,13 +1,18 @@
 -- `pricing::units::cost_of` meets its contract: every product is in range (`Heights`).
+use mathlib.Core.Path.{sym}
 use native.Mathlib.Omega.{arith}
 use Prim.Native.Nat.{_-_}
 use Rattle.pricing.proofs.Heights.{AtOutputRange, at-output, cost-computed}
+use Rattle.rules.proofs.Economics.Quantities.{cost-standing}
 use borrow.Author.Needs.{needs}
 use Rattle.pricing.proofs.units.cost_of.Statement.{statement}
 use Rattle.pricing.proofs.units.cost_of.Tie as tie
 
-range : (c : tie.After-result3) → let a = c .before .before .before .args in AtOutputRange (a .coefficients .now) (a .i) (a .p)
-range c = at-output (c .before .before .before .pre)
+range : (c : tie.After-result3) → let a = c .before .before .before .before .args in AtOutputRange (a .coefficients .now) (a .i) (a .p)
+range c = at-output (c .before .before .before .before .pre)
+
+returns : tie.Need-returns
+returns c = λ u h. rw (c .if1 .taken) (sym (cost-standing u))
 
 mul-k : tie.Need-mul-k
 mul-k c = search needs
@@ -48,13 +53,14 @@ mul-result-5 c = omega (arith, range c)
 add-result-4 : tie.Need-add-result-4
 add-result-4 c = omega (arith, range c)
 
-returns : tie.Need-returns
-returns c = λ u h. cost-computed h _
+returns-2 : tie.Need-returns-2
+returns-2 c = λ u h. cost-computed h _ (omega arith)
 
 pub cost-of-spec : {M : Type 1} → statement M
 cost-of-spec =
     tie.close
     (tie.spec
+    returns
     mul-k
     mul-result
     element-copy-out-result
@@ -68,4 +74,4 @@ cost-of-spec =
     add-result-3
     mul-result-5
     add-result-4
-    returns)
+    returns-2)
