@@ -113,7 +113,8 @@ static void make_small_row(uint64_t *state, uint32_t *row)
     uint32_t zones = random_between(state, 0, zones_most < 4 ? zones_most : 4);
     for (uint32_t k = 0; k < SHAHFUREEL_ROW_NUMBERS; k++)
         row[k] = 0;
-    row[0] = 10000 * random_between(state, 0, 5) * random_between(state, 0, 1);
+    uint32_t constant = 10000 * random_between(state, 0, 5);
+    row[0] = random_between(state, 0, 1) ? constant : 0;
     row[1] = 10000 * random_between(state, 0, 3);
     row[2] = 1000 * random_between(state, 0, 1);
     row[3] = random_between(state, 0, 3) == 0;

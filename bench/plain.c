@@ -270,7 +270,7 @@ static int64_t clamp(int64_t p, int64_t low, int64_t high)
 }
 
 /* The permitted output of least priced cost, the greatest on a tie. The part of the priced cost that is the same for every running
- * output, 100,000 * c0, is left out; standing, the first region if it is one, is priced without it. */
+ * output, 100,000 * c0, is left out; standing, the first region if it is one, costs nothing and has that part less. */
 static int64_t choose(const struct offer *o, int64_t m)
 {
     int64_t square = PRICED_OF_COST * o->c2 + m * o->b;

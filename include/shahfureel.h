@@ -83,7 +83,7 @@ extern "C" {
 /* ---- a row: the place of each number. Unit i of a list, counted from 0, starts at rows[SHAHFUREEL_ROW_NUMBERS * i].
  *
  * Outputs are in steps of 0.1 MW. At a running output p a unit costs c0 + c1 * p + c2 * p * p millionths of the currency per hour;
- * a unit that stands costs nothing, not even c0. It loses b * p * p hundred-millionths of a step. So a set that costs
+ * a unit that stands costs nothing, not even c0. At output p it loses b * p * p hundred-millionths of a step. So a set that costs
  * A + B * P + C * P * P an hour while it runs, and loses L * P * P MW, at P MW, has c0 = 1,000,000 A, c1 = 100,000 B, c2 = 10,000 C,
  * b = 10,000,000 L.
  *
@@ -111,7 +111,7 @@ enum shahfureel_row {
 enum shahfureel_reply {
     SHAHFUREEL_REPLY_COUNT = 0,              /* 2 bytes: number of units */
     SHAHFUREEL_REPLY_EVALUATIONS = 2,        /* 2 bytes: prices of energy that the search evaluated, at most 18 */
-    SHAHFUREEL_REPLY_COST = 4,               /* 8 bytes: millionths of the currency per hour */
+    SHAHFUREEL_REPLY_COST = 4,               /* 8 bytes: what the units that run cost, millionths of the currency per hour */
     SHAHFUREEL_REPLY_GAP = 12,               /* 8 bytes: likewise; nobody covers the demand for less than cost - gap */
     SHAHFUREEL_REPLY_SURPLUS = 20,           /* 8 bytes: net of losses less the demand, hundred-millionths of a step */
     SHAHFUREEL_REPLY_OUTPUTS = 28            /* 2 bytes to a unit: its output in steps of 0.1 MW, 0 if it stands */

@@ -116,7 +116,10 @@ pub fn further() -> Vec<Vector> {
         // c0 charged to a unit that stands, and not to one that runs
         replied(0, vec![with_c0(50_000)], whole(vec![0], 0, 0, 1, 0)),
         replied(0, vec![Unit { c0: 50_000, ..u_must_run() }], whole(vec![2], 74_000, 0, 1, 200_000_000)),
-        // the unit with the larger c0 stands; with a small c0 it runs at its least
+        // c0 charged to a unit that is stopped; output 1 taken for standing
+        replied(0, vec![Unit { previous: 10, ..with_c0(50_000) }], whole(vec![0], 0, 0, 1, 0)),
+        replied(0, vec![Unit { c0: 50_000, least: 1, ..u_must_run() }], whole(vec![1], 61_000, 0, 1, 100_000_000)),
+        // c0 left out of the choice; every unit with a c0 stands
         replied(7, vec![with_c0(5_000), with_c0(60_000)], whole(vec![7, 0], 124_000, 0, 15, 0)),
         replied(4, vec![u(), with_c0(1_000)], whole(vec![2, 2], 49_000, 0, 17, 0)),
         // c0 left out of the floor

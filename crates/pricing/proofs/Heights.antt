@@ -1,4 +1,4 @@
--- A unit's coefficients in the arrays: the range of all that is computed of them, for `omega`, which bounds no product itself; and the curve that they make, which is the unit's priced cost and falls and rises by its steps.
+-- A unit's coefficients in the arrays: the range of all that is computed of them, for `omega`, which bounds no product itself; and the curve that they make, which is the unit's priced cost where it runs, and falls and rises by its steps.
 use mathlib.Core.Path.{_≡_, refl, ap, subst, _∙_}
 use mathlib.Core.List.{List}
 use Prim.Native.Nat.{ℕ, _+_, _*_, _-_, _/_, _≤_, _<_}

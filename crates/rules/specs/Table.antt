@@ -7,7 +7,7 @@ use mathlib.Core.Path.{_≡_, refl}
 use lib.IntN.{pos, negℤ}
 use lib.ListN.{replicate, drop}
 use Rattle.rules.specs.Lists.{each, over}
-use Rattle.rules.specs.Layout.{fileOf}
+use Rattle.rules.specs.Layout.{fileOf, unitOfRow}
 use Rattle.rules.specs.Cases.{Row, answer, buffer, reply, u5, u5Reply, site, siteReply, u10Reply, rowOfU, rowsOfSite, put, shortHead, otherEdition, noUnit, demandAbove, byteTooMany, noZone, linearCostAbove, edgeAtLeast, otherMark, largestLosses, rowsBuffer, answers, unit, U, lossy, priced-at, marked, zoned, costing, dispatch, price, pack, check, dispatchInto, packInto, unpackInto, panelDispatch, panelPrice, panelPack, panelUnpack, allocate, searchFor, solveOffers, writes, refuses, values, checks, reads, returns, allocates, finds, solves}
 
 unfoldable pub table : List Row
@@ -94,6 +94,10 @@ unfoldable pub standing : List Row
 standing =
     -- c0 charged to a unit that stands
     record { call = dispatch (fileOf 0 (costing 50000 10000 1000 0 ∷ [])); result = reply (0 ∷ []) 0 0 1 0 }
+    -- c0 charged to a unit that is stopped
+    ∷ record { call = dispatch (fileOf 0 (unitOfRow (put 0 (50000 ∷ []) (put 6 (10 ∷ []) rowOfU)) ∷ [])); result = reply (0 ∷ []) 0 0 1 0 }
+    -- output 1 taken for standing
+    ∷ record { call = dispatch (fileOf 0 (unitOfRow (put 0 (50000 ∷ []) (put 4 (1 ∷ []) (put 9 (1 ∷ []) rowOfU))) ∷ [])); result = reply (1 ∷ []) 61000 0 1 100000000 }
     -- c0 left out of what a unit that must run costs
     ∷ record { call = dispatch (fileOf 0 (costing 50000 10000 1000 1 ∷ [])); result = reply (2 ∷ []) 74000 0 1 200000000 }
     -- c0 left out of the choice: both would run
@@ -104,7 +108,7 @@ standing =
     ∷ record { call = dispatch (fileOf 4 (U ∷ costing 1000 10000 1000 0 ∷ [])); result = reply (2 ∷ 2 ∷ []) 49000 0 17 0 }
     -- c0 of the units that stand in the floor
     ∷ record { call = dispatch (fileOf 9 (costing 5000 10000 1000 0 ∷ costing 60000 10000 1000 0 ∷ [])); result = reply (8 ∷ 8 ∷ []) 353000 179000 18 700000000 }
-    -- c0 of a unit that stands in the dual value, or none of one that runs: 8 and 0 are chosen
+    -- c0 of a unit that stands in the dual value, or none of one that runs: 8 and 0 are chosen; the floor is 174,000, the greatest: 353,000 − 179,000 of the row above
     ∷ record { call = price (fileOf 9 (costing 5000 10000 1000 0 ∷ costing 60000 10000 1000 0 ∷ [])) 25; result = values (pos 17400000000) false }
     -- c0 in the dual value where nothing runs
     ∷ record { call = price (fileOf 5 (costing 50000 10000 1000 0 ∷ [])) 0; result = values (pos 0) false }
@@ -179,7 +183,7 @@ unfolding answer further u5 u5Reply u10Reply site siteReply rowOfU rowsOfSite U 
 further-holds = refl
 
 pub standing-holds : map (λ r. answer (r .call)) standing ≡ map (λ r. r .result) standing
-unfolding answer standing U costing
+unfolding answer standing U costing rowOfU unitOfRow
 standing-holds = refl
 
 pub panel-forms-hold : map (λ r. answer (r .call)) panelForms ≡ map (λ r. r .result) panelForms
