@@ -4,6 +4,7 @@
 #include "agreement.h"
 #include "cases.h"
 #include "plain.h"
+#include "views.h"
 
 #include <stdio.h>
 #include <stdlib.h>
@@ -231,5 +232,6 @@ int main(int argc, char **argv)
         for (int i = 0; i < GROUPS; i++)
             repeat_group(repetition, i);
     print_times(repetitions);
+    time_views(repetitions);
     return 0;
 }

@@ -1,4 +1,4 @@
-/* The plain C program of the specification's dispatch, as the benchmark calls it. */
+/* The plain C programs of the specification's dispatch and view, as the benchmark calls them. */
 #ifndef PLAIN_H
 #define PLAIN_H
 
@@ -7,5 +7,9 @@
 
 /* As shahfureel_dispatch in include/shahfureel.h: the reply's length, or the number of a refusal, which writes nothing. */
 uint32_t plain_dispatch(const uint8_t *file, size_t file_length, uint8_t *reply, size_t reply_length);
+
+/* As shahfureel_view in include/shahfureel.h. */
+uint32_t plain_view(const uint8_t *reply, size_t reply_length, const uint8_t *request, size_t request_length, uint8_t *answer,
+                    size_t answer_room, int64_t *answers, size_t answers_room);
 
 #endif

@@ -1,7 +1,8 @@
 /* Shahfureel: economic dispatch of generating sets, with a proved bound on the distance from the best.
  *
  * A unit is a generating set. A row is a unit's numbers as a list; packing turns rows and a demand into a case file, a few
- * hundred bytes; dispatch turns a case file into a reply: who gives how much, what it costs, and the gap to the best.
+ * hundred bytes; dispatch turns a case file into a reply: who gives how much, what it costs, and the gap to the best. The view
+ * serves a reply to station screens that poll it by Modbus.
  *
  * A whole program: one unit that can give 0.2 to 1.0 MW, but nothing strictly between 0.4 and 0.7 MW, is asked for 0.5 MW.
  * It prints "unit 1 gives 0.7 MW" and "cost 119000, nobody does it for less than 77000".
@@ -51,7 +52,8 @@
  * What the caller must ensure (nothing in C can check it):
  *   - each pointer is valid for its length or room, and lists of numbers are aligned for their type;
  *   - LENGTHS AND ROOM OF LISTS COUNT NUMBERS, NOT BYTES: rows_length, rows_room, answers_room. For an array that is
- *     `sizeof rows / sizeof rows[0]`; a bare `sizeof rows` lets the call pass the array's end. File and reply count bytes;
+ *     `sizeof rows / sizeof rows[0]`; a bare `sizeof rows` lets the call pass the array's end. Files, replies, requests and the
+ *     view's answer count bytes;
  *   - a length or room is at most PTRDIFF_MAX bytes, and a pointer is not null, also where the length is 0;
  *   - an output buffer overlaps no other buffer of the same call.
  * A `..._length` is the exact length of an input: a case file's length is what packing returned or what was read, not the size of
@@ -74,11 +76,13 @@ extern "C" {
 #define SHAHFUREEL_REPLY_BYTES 92u           /* a reply buffer has at least as many bytes */
 #define SHAHFUREEL_ROW_NUMBERS 19u           /* numbers to a unit in a list of rows */
 #define SHAHFUREEL_ROWS_NUMBERS 608u         /* a list of rows for unpacking has at least as many numbers */
-#define SHAHFUREEL_ANSWERS 2u                /* a list of answers has at least as many numbers */
+#define SHAHFUREEL_ANSWERS 2u                /* a list of answers has at least as many numbers; shahfureel_view uses one */
 #define SHAHFUREEL_MULTIPLIER_MAX 65536u     /* hundredths of the currency per MWh */
 #define SHAHFUREEL_DEMAND_MAX 320000u        /* steps of 0.1 MW */
 #define SHAHFUREEL_RAMP_UNLIMITED 10000u     /* as up or down: no ramp limit that way */
 #define SHAHFUREEL_LENGTH_MIN 30u            /* shahfureel_dispatch and shahfureel_pack: an answer below this is a refusal */
+#define SHAHFUREEL_VIEW_REQUEST_BYTES 5u     /* a Modbus request: function, start and quantity */
+#define SHAHFUREEL_VIEW_ANSWER_BYTES 252u    /* a buffer for a Modbus answer has at least as many bytes */
 
 /* ---- a row: the place of each number. Unit i of a list, counted from 0, starts at rows[SHAHFUREEL_ROW_NUMBERS * i].
  *
@@ -163,7 +167,7 @@ static inline uint16_t shahfureel_reply_output(const uint8_t *reply, size_t unit
 /* ---- refusals, and what to do
  *
  * The first that applies is given: dispatch 1 to 11; pricing 14, 1, 2 to 11; unpacking 1 to 10; packing 12, 5, row by row 7 to
- * 10, then 13.
+ * 10, then 13; the view 1, 15, 16, 17.
  *
  * 7 to 10 from packing: to find the row, pack the rows one by one, each as a list of its 19 numbers with demand 0. The row that is
  * refused is the one. From a call on a file: a file that packing has written is never refused with 2 to 10, if it is passed with
@@ -171,7 +175,10 @@ static inline uint16_t shahfureel_reply_output(const uint8_t *reply, size_t unit
  *
  * 11: dispatch the same rows with demand 0. Refused with 11 again: zones and ramp limits leave a must-run set no output at all
  * (dispatch the rows one by one with demand 0 to find it). Answered: the sets together give too little for the demand, as
- * their limits, zones, ramp limits and losses are. */
+ * their limits, zones, ramp limits and losses are.
+ *
+ * 16: requests of other Modbus functions have other lengths. To answer one, send its function with the top bit set, then 1, as
+ * examples/modbus_server.c does. */
 
 enum shahfureel_refusal {
     SHAHFUREEL_BUFFER_TOO_SHORT = 1,         /* lend a reply of 92 bytes, rows of 608 numbers, answers of 2 */
@@ -187,7 +194,10 @@ enum shahfureel_refusal {
     SHAHFUREEL_NO_ALLOCATION = 11,           /* no permitted outputs cover the demand after losses: see above */
     SHAHFUREEL_ROWS_INVALID = 12,            /* rows_length is 0, above 608, or not 19 to a unit: does it count numbers? */
     SHAHFUREEL_FILE_BUFFER_TOO_SHORT = 13,   /* lend a file buffer of 1,480 bytes */
-    SHAHFUREEL_MULTIPLIER_OUT_OF_RANGE = 14  /* the multiplier is above 65,536 */
+    SHAHFUREEL_MULTIPLIER_OUT_OF_RANGE = 14, /* the multiplier is above 65,536 */
+    SHAHFUREEL_REPLY_MALFORMED = 15,         /* the reply is not 28 + 2 * units bytes, units 1 to 32: was its room passed? */
+    SHAHFUREEL_REQUEST_LENGTH = 16,          /* the request is not 5 bytes: one of another function, or with its header? */
+    SHAHFUREEL_ANSWER_TOO_SHORT = 17         /* lend an answer of 252 bytes */
 };
 
 /* ---- calls. README.md, "The formats", has the case file byte by byte. */
@@ -212,6 +222,18 @@ uint32_t shahfureel_pack(uint32_t demand, const uint32_t *rows, size_t rows_leng
  * number of units; or returns a refusal. (rows_room and answers_room count numbers: at least 608 and 2.) */
 uint32_t shahfureel_unpack(const uint8_t *file, size_t file_length, uint32_t *rows, size_t rows_room, int64_t *answers,
                            size_t answers_room);
+
+/* Answers a request of the Modbus Application Protocol on a reply: register k, counted from 0, is the reply's bytes 2 * k and
+ * 2 * k + 1, and there are 14 + units. Returns 0, writes the answer and, as answers[0], the answer's length; or returns a refusal.
+ *   - reply_length is exactly what shahfureel_dispatch returned for this reply, not the size of the array that holds it.
+ *   - The request is a protocol data unit of 5 bytes, without a header or a checksum of the line: the function, then the start and
+ *     the quantity, 2 bytes each.
+ *   - Function 3, read holding registers, is answered with the function, the byte count 2 * quantity, and the registers.
+ *   - What cannot be served is answered too, with 2 bytes: the function with its top bit set, and the exception: 1 for another
+ *     function, else 3 for a quantity outside 1 to 125, else 2 where start + quantity is above 14 + units. That is no refusal.
+ * (answer_room counts bytes: at least 252. answers_room counts numbers: at least 1.) */
+uint32_t shahfureel_view(const uint8_t *reply, size_t reply_length, const uint8_t *request, size_t request_length,
+                         uint8_t *answer, size_t answer_room, int64_t *answers, size_t answers_room);
 
 #ifdef __cplusplus
 }

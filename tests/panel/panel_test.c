@@ -1,4 +1,4 @@
-/* The panel's four calls from C, by include/shahfureel.h and the static library alone. Each buffer stands between guards, each byte
+/* The panel's calls from C, by include/shahfureel.h and the static library alone. Each buffer stands between guards, each byte
  * buffer from 1 to 8 bytes past an aligned address, each input in memory that ends with it; each call is made to answer and to
  * refuse with every number that it can give. The header's names are compared with bytes, and what it advises is tried. */
 #include "shahfureel.h"
@@ -233,6 +233,68 @@ static void pricing(size_t a)
     for (size_t i = 0; i < DAMAGED; i++)
         price_gives(u5_but(damaged[i].at, damaged[i].value), U5_BYTES, a, 21, 2, damaged[i].number, damaged[i].what);
     price_gives(u5_but(7, 11), U5_BYTES, a, 21, 2, SHAHFUREEL_NO_ALLOCATION, "a demand of 11 is 11");
+}
+
+/* ---- the Modbus view */
+
+static uint32_t view(const uint8_t *from, size_t reply_length, const uint8_t *asked, size_t request_length, size_t alignment,
+                     size_t answer_room, size_t answers_room)
+{
+    fill();
+    uint8_t *reply = copy_of(from, reply_length, alignment);
+    uint8_t *request = copy_of(asked, request_length, alignment);
+    uint32_t number = shahfureel_view(reply, reply_length, request, request_length, byte_space + GUARD + alignment, answer_room,
+                                      answers, answers_room);
+    release("view", request, asked, request_length, alignment);
+    release("view", reply, from, reply_length, alignment);
+    return number;
+}
+
+static void view_gives(const uint8_t *reply, size_t reply_length, size_t request_length, size_t alignment, size_t answer_room,
+                       size_t answers_room, uint32_t number, const char *what)
+{
+    static const uint8_t request[6] = {3, 0, 0, 0, 1};
+    expect(view(reply, reply_length, request, request_length, alignment, answer_room, answers_room) == number, "view", what);
+    expect(all_kept(), "view", "a refusal changes nothing");
+}
+
+/* the answer to a request on U5's reply */
+static void view_answers(size_t alignment, size_t answer_room, const uint8_t *request, const uint8_t *answer, size_t length,
+                         const char *what)
+{
+    const uint8_t *written = byte_space + GUARD + alignment;
+    expect(view(U5_REPLY, sizeof U5_REPLY, request, SHAHFUREEL_VIEW_REQUEST_BYTES, alignment, answer_room, 1) == 0, "view", what);
+    expect(answers[0] == (int64_t)length && memcmp(written, answer, length) == 0, "view", what);
+    expect(bytes_kept_but(written, length) && answers_kept_but(1), "view", "it writes its answer and one length, no other");
+}
+
+static void viewing_registers(size_t a)
+{
+    uint8_t all[2 + sizeof U5_REPLY] = {3, sizeof U5_REPLY};
+    memcpy(all + 2, U5_REPLY, sizeof U5_REPLY);
+    view_answers(a, SHAHFUREEL_VIEW_ANSWER_BYTES, (const uint8_t[]){3, 0, 0, 0, 15}, all, sizeof all, "all registers");
+    view_answers(a, BYTES, (const uint8_t[]){3, 0, 14, 0, 1}, (const uint8_t[]){3, 2, 0, 7}, 4, "the last register");
+    view_answers(a, 252, (const uint8_t[]){3, 0, 15, 0, 1}, (const uint8_t[]){0x83, 2}, 2, "a register past the end");
+    view_answers(a, 252, (const uint8_t[]){3, 0, 0, 0, 0}, (const uint8_t[]){0x83, 3}, 2, "no register");
+    view_answers(a, 252, (const uint8_t[]){3, 0xFF, 0xFF, 0, 126}, (const uint8_t[]){0x83, 3}, 2, "3 comes before 2");
+    view_answers(a, 252, (const uint8_t[]){16, 0, 0, 0, 0}, (const uint8_t[]){0x90, 1}, 2, "another function");
+}
+
+static void viewing(size_t a)
+{
+    uint8_t other[sizeof U5_REPLY];
+    memcpy(other, U5_REPLY, sizeof other);
+    viewing_registers(a);
+    view_gives(U5_REPLY, 0, 0, a, 0, 0, SHAHFUREEL_BUFFER_TOO_SHORT, "1 comes before 15");
+    view_gives(U5_REPLY, 0, 0, a, 0, 1, SHAHFUREEL_REPLY_MALFORMED, "15 comes before 16");
+    view_gives(U5_REPLY, sizeof U5_REPLY - 1, 5, a, 252, 1, SHAHFUREEL_REPLY_MALFORMED, "a cut reply is 15");
+    other[1] = 0;
+    view_gives(other, 28, 5, a, 252, 1, SHAHFUREEL_REPLY_MALFORMED, "a reply of no unit is 15");
+    other[1] = 2;
+    view_gives(other, sizeof other, 5, a, 252, 1, SHAHFUREEL_REPLY_MALFORMED, "a reply of another count is 15");
+    view_gives(U5_REPLY, sizeof U5_REPLY, 4, a, 0, 1, SHAHFUREEL_REQUEST_LENGTH, "16 comes before 17");
+    view_gives(U5_REPLY, sizeof U5_REPLY, 6, a, 252, 1, SHAHFUREEL_REQUEST_LENGTH, "a request of 6 bytes is 16");
+    view_gives(U5_REPLY, sizeof U5_REPLY, 5, a, 251, 1, SHAHFUREEL_ANSWER_TOO_SHORT, "an answer of 251 bytes is 17");
 }
 
 /* ---- packing */
@@ -494,6 +556,7 @@ int main(void)
     for (size_t alignment = 1; alignment <= ALIGNMENTS; alignment++) {
         dispatching(alignment);
         pricing(alignment);
+        viewing(alignment);
         packing(alignment);
         unpacking(alignment);
     }

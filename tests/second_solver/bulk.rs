@@ -1,4 +1,4 @@
-//! Compares the library's four C calls with the second solver on fresh cases: `bulk SECONDS [SEED]`, or `bulk --case SEED` to
+//! Compares the library's five C calls with the second solver on fresh cases: `bulk SECONDS [SEED]`, or `bulk --case SEED` to
 //! repeat one case. Answers and whole buffers have to be equal, with what lies before and behind the lent parts.
 
 use second_solver::calls::{bytes_of, Call};
@@ -25,6 +25,16 @@ extern "C" {
         rows_length: usize,
         answers: *mut i64,
         answers_length: usize,
+    ) -> u32;
+    fn shahfureel_view(
+        reply: *const u8,
+        reply_length: usize,
+        request: *const u8,
+        request_length: usize,
+        answer: *mut u8,
+        answer_room: usize,
+        lengths: *mut i64,
+        lengths_room: usize,
     ) -> u32;
 }
 
@@ -73,6 +83,7 @@ fn random_i64(random: &mut Random) -> i64 {
 #[derive(Clone, Debug, PartialEq)]
 struct Buffers {
     bytes_in: Lent<u8>,
+    request_in: Lent<u8>,
     rows_in: Lent<u32>,
     bytes_out: Lent<u8>,
     rows_out: Lent<u32>,
@@ -81,21 +92,24 @@ struct Buffers {
 
 impl Buffers {
     fn new(call: &Call, random: &mut Random) -> Buffers {
-        let (file, rows): (&[u8], &[u32]) = match call {
-            Call::Dispatch { file, .. } | Call::Price { file, .. } | Call::Unpack { file, .. } => (file, &[]),
-            Call::Pack { rows, .. } => (&[], rows),
+        let (bytes, request, rows): (&[u8], &[u8], &[u32]) = match call {
+            Call::Dispatch { file, .. } | Call::Price { file, .. } | Call::Unpack { file, .. } => (file, &[], &[]),
+            Call::Pack { rows, .. } => (&[], &[], rows),
+            Call::View { reply, request, .. } => (reply, request, &[]),
         };
         let (bytes_out, rows_out) = match call {
             Call::Dispatch { room, .. } => (some_room(*room, 92, random), 0),
             Call::Pack { room, .. } => (some_room(*room, *room, random), 0),
             Call::Unpack { room, .. } => (0, some_room(*room, 608, random)),
+            Call::View { room, .. } => (some_room(*room, 252, random), 0),
             Call::Price { .. } => (0, 0),
         };
         let long = random.pick(&[256, 257, LONG, LONG + 1]);
         let usual = random.pick(&[0, 1, 2, 2, 2, 2, 2, 2, 2, 2, 3, 9]);
         let answers = if random.chance(200) { long } else { usual };
         Buffers {
-            bytes_in: Lent::holding(file, random, random_byte),
+            bytes_in: Lent::holding(bytes, random, random_byte),
+            request_in: Lent::holding(request, random, random_byte),
             rows_in: Lent::holding(rows, random, random_u32),
             bytes_out: Lent::random(bytes_out, random, random_byte),
             rows_out: Lent::random(rows_out, random, random_u32),
@@ -116,13 +130,15 @@ fn some_room(own: usize, needed: usize, random: &mut Random) -> usize {
     random.pick(&[0, needed.saturating_sub(1), needed, needed + 1, any])
 }
 
-/// The call, rarely with a file or rows that are longer by what 16 bits cannot hold.
+/// The call, rarely with an input that is longer by what 16 bits cannot hold.
 fn sometimes_padded(mut call: Call, random: &mut Random) -> Call {
     match &mut call {
         Call::Dispatch { file, .. } | Call::Price { file, .. } | Call::Unpack { file, .. } if random.chance(200) => {
             file.resize(file.len() + LONG, 0);
         }
         Call::Pack { rows, .. } if random.chance(200) => rows.resize(rows.len() + LONG, 0),
+        Call::View { reply, .. } if random.chance(200) => reply.resize(reply.len() + LONG, 0),
+        Call::View { request, .. } if random.chance(200) => request.resize(request.len() + LONG, 0),
         _ => {}
     }
     call
@@ -131,7 +147,8 @@ fn sometimes_padded(mut call: Call, random: &mut Random) -> Call {
 // ---- both answers
 
 fn library_answer(call: &Call, buffers: &mut Buffers) -> u32 {
-    let file = buffers.bytes_in.part();
+    let bytes = buffers.bytes_in.part();
+    let request = buffers.request_in.part();
     let rows = buffers.rows_in.part();
     let bytes_out = buffers.bytes_out.part();
     let rows_out = buffers.rows_out.part();
@@ -140,19 +157,29 @@ fn library_answer(call: &Call, buffers: &mut Buffers) -> u32 {
     unsafe {
         match call {
             Call::Dispatch { .. } => {
-                shahfureel_dispatch(file.as_mut_ptr(), file.len(), bytes_out.as_mut_ptr(), bytes_out.len())
+                shahfureel_dispatch(bytes.as_mut_ptr(), bytes.len(), bytes_out.as_mut_ptr(), bytes_out.len())
             }
             Call::Price { multiplier, .. } => {
-                shahfureel_price(file.as_mut_ptr(), file.len(), *multiplier, answers.as_mut_ptr(), answers.len())
+                shahfureel_price(bytes.as_mut_ptr(), bytes.len(), *multiplier, answers.as_mut_ptr(), answers.len())
             }
             Call::Pack { demand, .. } => {
                 shahfureel_pack(*demand, rows.as_mut_ptr(), rows.len(), bytes_out.as_mut_ptr(), bytes_out.len())
             }
             Call::Unpack { .. } => shahfureel_unpack(
-                file.as_mut_ptr(),
-                file.len(),
+                bytes.as_mut_ptr(),
+                bytes.len(),
                 rows_out.as_mut_ptr(),
                 rows_out.len(),
+                answers.as_mut_ptr(),
+                answers.len(),
+            ),
+            Call::View { .. } => shahfureel_view(
+                bytes.as_mut_ptr(),
+                bytes.len(),
+                request.as_mut_ptr(),
+                request.len(),
+                bytes_out.as_mut_ptr(),
+                bytes_out.len(),
                 answers.as_mut_ptr(),
                 answers.len(),
             ),
@@ -166,6 +193,9 @@ fn solver_answer(call: &Call, buffers: &mut Buffers) -> u32 {
         Call::Price { file, multiplier } => solver::panel_price(file, *multiplier, buffers.answers.part()),
         Call::Pack { demand, rows, .. } => solver::panel_pack(*demand, rows, buffers.bytes_out.part()),
         Call::Unpack { file, .. } => solver::panel_unpack(file, buffers.rows_out.part(), buffers.answers.part()),
+        Call::View { reply, request, .. } => {
+            solver::panel_view(reply, request, buffers.bytes_out.part(), buffers.answers.part())
+        }
     }
 }
 
@@ -173,7 +203,7 @@ fn solver_answer(call: &Call, buffers: &mut Buffers) -> u32 {
 fn refusal(call: &Call, number: u32) -> Option<Refused> {
     let answered = match call {
         Call::Dispatch { .. } | Call::Pack { .. } => number >= 30,
-        Call::Price { .. } | Call::Unpack { .. } => number == 0,
+        Call::Price { .. } | Call::Unpack { .. } | Call::View { .. } => number == 0,
     };
     if answered {
         None
@@ -207,6 +237,7 @@ fn difference(call: &Call, library: (u32, &Buffers), solver: (u32, &Buffers)) ->
     );
     text += &format!("the library returns {}, the solver {}\n", library.0, solver.0);
     text += &buffer_difference("input bytes", &library.1.bytes_in, &solver.1.bytes_in);
+    text += &buffer_difference("request bytes", &library.1.request_in, &solver.1.request_in);
     text += &buffer_difference("input rows", &library.1.rows_in, &solver.1.rows_in);
     text += &buffer_difference("bytes", &library.1.bytes_out, &solver.1.bytes_out);
     text += &buffer_difference("rows", &library.1.rows_out, &solver.1.rows_out);
@@ -220,6 +251,7 @@ fn input_text(call: &Call) -> String {
         Call::Price { file, multiplier } => format!("price: multiplier {}, file {}", multiplier, hex(file)),
         Call::Pack { demand, rows, .. } => format!("pack: demand {}, rows {}", demand, hex(&bytes_of(rows))),
         Call::Unpack { file, .. } => format!("unpack: file {}", hex(file)),
+        Call::View { reply, request, .. } => format!("view: request {}, reply {}", hex(request), hex(reply)),
     }
 }
 

@@ -1,4 +1,4 @@
-//! The four calls of the specification, with their inputs and the size of the buffer that is lent.
+//! The five calls of the specification, with their inputs and the size of the buffer that is lent.
 
 #[derive(Clone, Debug)]
 pub enum Call {
@@ -6,10 +6,11 @@ pub enum Call {
     Price { file: Vec<u8>, multiplier: u32 },
     Pack { demand: u32, rows: Vec<u32>, room: usize },
     Unpack { file: Vec<u8>, room: usize },
+    View { reply: Vec<u8>, request: Vec<u8>, room: usize },
 }
 
 /// The names of the calls, in the order of their indices.
-pub const NAMES: [&str; 4] = ["dispatch", "price", "pack", "unpack"];
+pub const NAMES: [&str; 5] = ["dispatch", "price", "pack", "unpack", "view"];
 
 impl Call {
     pub fn index(&self) -> usize {
@@ -18,6 +19,7 @@ impl Call {
             Call::Price { .. } => 1,
             Call::Pack { .. } => 2,
             Call::Unpack { .. } => 3,
+            Call::View { .. } => 4,
         }
     }
 

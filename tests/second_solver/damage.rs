@@ -1,7 +1,7 @@
-//! Damaged files and rows: fields at and past their limits, faults of every number, and two faults at once.
+//! Damaged files, rows and views: fields at and past their limits, faults of every number, and two faults at once.
 
 use crate::calls::Call;
-use crate::generate::{calls_of_file, pack, small_case, small_unit, with_demand};
+use crate::generate::{any_reply, calls_of_file, pack, request, small_case, small_unit, with_demand};
 use crate::random::Random;
 use crate::solver::{self, Case, Unit};
 
@@ -397,4 +397,70 @@ fn two_faults_of_packing(case: &Case, random: &mut Random) -> Vec<Call> {
         calls.push(Call::Pack { demand, rows: wrong, room: 0 });
     }
     calls
+}
+
+// ---- views
+
+/// Replies, requests and rooms that are refused, or just not, alone and together.
+pub fn damaged_views(random: &mut Random) -> Vec<Call> {
+    let reply = any_reply(random);
+    let good = request(3, random.below(reply.len() / 2), 1);
+    let mut calls = Vec::new();
+    for damaged in damaged_replies(&reply, random) {
+        calls.push(Call::View { reply: damaged, request: good.clone(), room: 252 });
+    }
+    for length in [0, 1, 4, 6, 8, 10] {
+        calls.push(Call::View { reply: reply.clone(), request: resized(&good, length, random), room: 252 });
+    }
+    let request_of_exception = random.pick(&[request(4, 0, 1), request(3, 0, 0), request(3, 65_535, 1)]);
+    for room in [0, 94, 251, 252, 253] {
+        calls.push(Call::View { reply: reply.clone(), request: good.clone(), room });
+        calls.push(Call::View { reply: reply.clone(), request: request_of_exception.clone(), room });
+    }
+    calls.extend(faults_of_views(&reply, &good, random));
+    calls
+}
+
+fn resized(bytes: &[u8], length: usize, random: &mut Random) -> Vec<u8> {
+    let mut bytes = bytes.to_vec();
+    bytes.resize(length, random.pick(&[0, 3, 255]));
+    bytes
+}
+
+/// Replies cut and padded, and with another n, of their own length and of the one that fits this n.
+fn damaged_replies(reply: &[u8], random: &mut Random) -> Vec<Vec<u8>> {
+    let (length, units) = (reply.len(), get(reply, 0));
+    let mut replies: Vec<Vec<u8>> = Vec::new();
+    for length in [0, 1, 2, 27, 28, length - 2, length - 1, length + 1, length + 2, 92, 94, length + 256] {
+        replies.push(resized(reply, length, random));
+    }
+    for count in [0, units - 1, units + 1, 33, 256 + units, 256 * units, 65_535] {
+        let mut changed = reply.to_vec();
+        set(&mut changed, 0, 2, count);
+        replies.push(changed);
+    }
+    for count in [0, 1, 32, 33, 256 + units] {
+        let mut fitting = resized(reply, 28 + 2 * count as usize, random);
+        set(&mut fitting, 0, 2, count);
+        replies.push(fitting);
+    }
+    replies
+}
+
+/// 15, 16 and 17, each two of them and all; and each with a request that gives an exception.
+fn faults_of_views(reply: &[u8], good: &[u8], random: &mut Random) -> Vec<Call> {
+    let damaged = reply[..reply.len() - random.pick(&[1, 2, 28])].to_vec();
+    let short = good[..random.below(5)].to_vec();
+    let room = random.pick(&[0, 94, 251]);
+    let exception = request(131, 65_535, 0);
+    let faults = [
+        (damaged.clone(), short.clone(), 252),
+        (damaged.clone(), good.to_vec(), room),
+        (reply.to_vec(), short.clone(), room),
+        (damaged.clone(), short, room),
+        (damaged, exception.clone(), 252),
+        (reply.to_vec(), [exception.clone(), vec![0]].concat(), 252),
+        (reply.to_vec(), exception, room),
+    ];
+    faults.into_iter().map(|(reply, request, room)| Call::View { reply, request, room }).collect()
 }

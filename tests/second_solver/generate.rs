@@ -19,7 +19,7 @@ fn kind(name: &'static str, times: usize, make: fn(&mut Random) -> Vec<Call>) ->
 }
 
 pub fn kinds() -> Vec<Kind> {
-    [accepted_kinds(), damaged_kinds()].concat()
+    [accepted_kinds(), damaged_kinds(), view_kinds()].concat()
 }
 
 /// Kinds of accepted files: some of each are dispatched.
@@ -58,6 +58,14 @@ fn damaged_kinds() -> Vec<Kind> {
         kind("damaged-rows", 1, damage::damaged_rows),
         kind("short-buffers", 1, short_buffers),
         kind("multipliers", 1, multipliers),
+    ]
+}
+
+fn view_kinds() -> Vec<Kind> {
+    vec![
+        kind("viewed-registers", 2, viewed_registers),
+        kind("views-at-limits", 1, views_at_limits),
+        kind("damaged-views", 1, damage::damaged_views),
     ]
 }
 
@@ -489,4 +497,72 @@ fn multipliers(random: &mut Random) -> Vec<Call> {
         }
     }
     calls
+}
+
+// ---- views
+
+/// The reply to a case of 1 to 32 units.
+pub fn any_reply(random: &mut Random) -> Vec<u8> {
+    let any = random.between(1, 32);
+    let count = random.pick(&[1, 2, any, any, any, 32]);
+    let units: Vec<Unit> = (0..count).map(|_| small_unit(random)).collect();
+    let case = Case { demand: random.between(0, capacity(&units)), units };
+    solver::encode_reply(&solver::solve(&case).expect("a demand within capacity"))
+}
+
+pub fn request(function: u8, start: usize, quantity: usize) -> Vec<u8> {
+    let [start_high, start_low] = (start as u16).to_be_bytes();
+    let [quantity_high, quantity_low] = (quantity as u16).to_be_bytes();
+    vec![function, start_high, start_low, quantity_high, quantity_low]
+}
+
+fn view(reply: &[u8], request: Vec<u8>, random: &mut Random) -> Call {
+    Call::View { reply: reply.to_vec(), request, room: random.pick(&[252, 253, 1_600]) }
+}
+
+/// Each register alone, all at once, and some ranges; then all of a reply with any numbers behind n, which no view judges.
+fn viewed_registers(random: &mut Random) -> Vec<Call> {
+    let reply = any_reply(random);
+    let count = reply.len() / 2;
+    let mut ranges: Vec<(usize, usize)> = (0..count).map(|register| (register, 1)).collect();
+    ranges.push((0, count));
+    for _ in 0..4 {
+        let start = random.below(count);
+        ranges.push((start, 1 + random.below(count - start)));
+    }
+    let mut calls = Vec::new();
+    for (start, quantity) in ranges {
+        calls.push(view(&reply, request(3, start, quantity), random));
+    }
+    let mut any_numbers = reply;
+    any_numbers[2..].fill_with(|| random.next() as u8);
+    calls.push(view(&any_numbers, request(3, 0, count), random));
+    calls
+}
+
+/// The stated views; start, quantity and their sum at and past their limits; other functions, some with a fault besides.
+fn views_at_limits(random: &mut Random) -> Vec<Call> {
+    let (reply, requests) = vectors::viewed_requests();
+    let mut calls: Vec<Call> = requests.into_iter().map(|request| view(&reply, request, random)).collect();
+    let reply = any_reply(random);
+    let count = reply.len() / 2;
+    for (start, quantity) in ranges_at_limits(count) {
+        calls.push(view(&reply, request(3, start, quantity), random));
+    }
+    for function in [0, 1, 2, 4, 6, 16, 127, 128, 131, 255, random.next() as u8] {
+        let (start, quantity) = random.pick(&[(0, 1), (0, 1), (0, 0), (0, 126), (count, 1), (65_535, 65_535)]);
+        calls.push(view(&reply, request(function, start, quantity), random));
+    }
+    calls
+}
+
+/// Starts and quantities for so many registers: all pairs of limits, sums at the end, sums and numbers that 16 or 8 bits cut.
+fn ranges_at_limits(count: usize) -> Vec<(usize, usize)> {
+    let mut ranges = Vec::new();
+    for start in [0, count - 1, count, 65_535] {
+        ranges.extend([0, 1, 124, 125, 126, 127, 65_535].map(|quantity| (start, quantity)));
+    }
+    ranges.extend([(0, count), (0, count + 1), (1, count - 1), (1, count), (count - 2, 2), (count - 1, 2)]);
+    ranges.extend([(65_536 - count, count), (256, 1), (32_768, 1), (0, 257), (0, 32_769)]);
+    ranges
 }

@@ -394,7 +394,7 @@ pub fn solve(case: &Case) -> Result<Reply, Refused> {
     })
 }
 
-fn encode_reply(reply: &Reply) -> Vec<u8> {
+pub fn encode_reply(reply: &Reply) -> Vec<u8> {
     let mut bytes = Vec::new();
     put(&mut bytes, reply.outputs.len() as i128, 2);
     put(&mut bytes, reply.evaluations, 2);
@@ -445,6 +445,66 @@ fn check_multiplier(multiplier: u32) -> Result<(), Refused> {
     refuse_if(i128::from(multiplier) > GREATEST_MULTIPLIER, 14)
 }
 
+// ---- the Modbus view
+
+fn is_reply(bytes: &[u8]) -> bool {
+    let fits = |count: i128| (1..=32).contains(&count) && bytes.len() as i128 == 28 + 2 * count;
+    bytes.len() >= 2 && fits(field(bytes, 0, 2))
+}
+
+/// The reply as numbers of 16 bits: a field of 64 bits is four of them, the highest first.
+fn registers(reply: &Reply) -> Vec<i128> {
+    let mut registers = vec![reply.outputs.len() as i128, reply.evaluations];
+    for value in [reply.cost, reply.gap, reply.surplus] {
+        registers.extend([48, 32, 16, 0].map(|low_bits| (value >> low_bits) % 65_536));
+    }
+    registers.extend(&reply.outputs);
+    registers
+}
+
+/// The registers that are asked for, or the number of the exception.
+fn read(registers: &[i128], function: i128, start: i128, quantity: i128) -> Result<Vec<i128>, i128> {
+    if function != 3 {
+        return Err(1);
+    }
+    if !(1..=125).contains(&quantity) {
+        return Err(3);
+    }
+    if start + quantity > registers.len() as i128 {
+        return Err(2);
+    }
+    Ok(registers.iter().skip(start as usize).take(quantity as usize).copied().collect())
+}
+
+fn encode_answer(function: i128, answer: Result<Vec<i128>, i128>) -> Vec<u8> {
+    let mut bytes = Vec::new();
+    match answer {
+        Ok(values) => {
+            put(&mut bytes, function, 1);
+            put(&mut bytes, 2 * values.len() as i128, 1);
+            for value in values {
+                put(&mut bytes, value, 2);
+            }
+        }
+        Err(exception) => {
+            put(&mut bytes, 128 + function % 128, 1);
+            put(&mut bytes, exception, 1);
+        }
+    }
+    bytes
+}
+
+/// Answers a request for registers of a reply; the answer is the length of what is written.
+pub fn view(reply: &[u8], request: &[u8], answer: &mut [u8]) -> Result<usize, Refused> {
+    refuse_if(!is_reply(reply), 15)?;
+    refuse_if(request.len() != 5, 16)?;
+    refuse_if(answer.len() < 252, 17)?;
+    let (function, start, quantity) = (field(request, 0, 1), field(request, 1, 2), field(request, 3, 2));
+    let bytes = encode_answer(function, read(&registers(&decode_reply(reply)), function, start, quantity));
+    answer[..bytes.len()].copy_from_slice(&bytes);
+    Ok(bytes.len())
+}
+
 // ---- the C forms
 
 fn number_of(answer: Result<usize, Refused>) -> u32 {
@@ -477,6 +537,14 @@ pub fn panel_unpack(file: &[u8], rows: &mut [u32], answers: &mut [i64]) -> u32 {
     number_of(unpacked.map(|unpacked| {
         answers[0] = unpacked.demand as i64;
         answers[1] = unpacked.count as i64;
+        0
+    }))
+}
+
+pub fn panel_view(reply: &[u8], request: &[u8], answer: &mut [u8], lengths: &mut [i64]) -> u32 {
+    let viewed = refuse_if(lengths.is_empty(), 1).and_then(|()| view(reply, request, answer));
+    number_of(viewed.map(|length| {
+        lengths[0] = length as i64;
         0
     }))
 }

@@ -7,6 +7,9 @@ use crate::solver::{self, Case, Priced, Refused, Reply, Unit};
 const U5: &str = "0001000100000005000c001e000000000000271003e800000002000a000000000000000000010004\
                   0007";
 
+/// The reply to U5.
+const U5_REPLY: &str = "00010012000000000001d0d8000000000000a410000000000bebc2000007";
+
 /// Unit U of the specification.
 pub fn u() -> Unit {
     Unit {
@@ -22,6 +25,10 @@ pub fn u() -> Unit {
         mark: 0,
         zones: vec![(4, 7)],
     }
+}
+
+fn u5() -> Case {
+    Case { demand: 5, units: vec![u()] }
 }
 
 fn u_must_run() -> Unit {
@@ -143,19 +150,48 @@ pub fn priced_multipliers() -> Vec<u32> {
     PRICINGS.iter().map(|(multiplier, _)| *multiplier).collect()
 }
 
+/// Requests for registers of the reply to U5, and the answers.
+const VIEWS: [([u8; 5], &str); 8] = [
+    ([3, 0, 0, 0, 2], "030400010012"),
+    ([3, 0, 14, 0, 1], "03020007"),
+    ([3, 0, 15, 0, 1], "8302"),
+    ([3, 0, 0, 0, 0], "8303"),
+    ([3, 0, 0, 0, 126], "8303"),
+    ([3, 255, 255, 0, 126], "8303"),
+    ([4, 0, 0, 0, 1], "8401"),
+    ([131, 0, 0, 0, 1], "8301"),
+];
+
+/// The reply to U5, and these requests.
+pub fn viewed_requests() -> (Vec<u8>, Vec<Vec<u8>>) {
+    let reply = solver::solve(&u5()).expect("a reply to U5");
+    (solver::encode_reply(&reply), VIEWS.iter().map(|(request, _)| request.to_vec()).collect())
+}
+
+fn check_views() {
+    let (reply, requests) = viewed_requests();
+    assert_eq!(hex(&reply), U5_REPLY, "the reply to U5");
+    for (request, (_, stated)) in requests.iter().zip(VIEWS) {
+        let mut answer = [0; 252];
+        let length = solver::view(&reply, request, &mut answer).expect("a view");
+        assert_eq!(hex(&answer[..length]), stated, "the reply to U5 viewed by {}", hex(request));
+    }
+}
+
 /// Asserts every number that is stated; tells how many vectors there are.
 pub fn check() -> usize {
-    let u5 = solver::encode(&Case { demand: 5, units: vec![u()] });
+    let u5 = solver::encode(&u5());
     assert_eq!(hex(&u5), U5, "the file of U5");
     for (multiplier, dual) in PRICINGS {
         let covered = true;
         assert_eq!(solver::price(&u5, multiplier), Ok(Priced { dual, covered }), "U5 priced at {}", multiplier);
     }
+    check_views();
     let vectors: Vec<Vector> = table().into_iter().chain(further()).collect();
     for vector in &vectors {
         check_vector(vector);
     }
-    vectors.len() + PRICINGS.len()
+    vectors.len() + PRICINGS.len() + VIEWS.len()
 }
 
 fn check_vector(vector: &Vector) {

@@ -33,6 +33,7 @@ fn main() {
     let vectors = vectors::check();
     let files = make_files();
     files.tally.assert_complete(POSSIBLE);
+    assert_every_exception(&files.lines);
     std::fs::write(input_path, input(&files.records)).expect(input_path);
     std::fs::write(output_path, output(&files)).expect(output_path);
     println!("{} vectors as stated", vectors);
@@ -59,6 +60,15 @@ fn make_files() -> Files {
         files.lines.push(format!("kind {} {}", kind.name, counts[index]));
     }
     files
+}
+
+/// Asserts that some view is answered with each exception.
+fn assert_every_exception(lines: &[String]) {
+    for exception in 1..=3 {
+        let end = format!("{:02x} kept", exception);
+        let occurs = lines.iter().any(|line| line.starts_with("view 2 ") && line.ends_with(&end));
+        assert!(occurs, "no view is answered with exception {}", exception);
+    }
 }
 
 fn input(records: &[Vec<u8>]) -> Vec<u8> {
@@ -102,6 +112,10 @@ impl Files {
                 let (line, refused) = unpack(file, *room);
                 (record(4, kind, 0, *room, file), line, refused)
             }
+            Call::View { reply, request, room } => {
+                let (line, refused) = view(reply, request, *room);
+                (record(5, kind, reply.len() as u32, *room, &[&reply[..], request].concat()), line, refused)
+            }
         };
         self.records.push(record);
         self.lines.push(line);
@@ -133,6 +147,12 @@ fn pack(demand: u32, rows: &[u32], room: usize) -> (String, Option<Refused>) {
     let mut buffer = [FILL_BYTE; BUFFER_BYTES];
     let answer = solver::pack(demand, rows, &mut buffer[..room]);
     line_of_bytes("pack", answer, &buffer)
+}
+
+fn view(reply: &[u8], request: &[u8], room: usize) -> (String, Option<Refused>) {
+    let mut buffer = [FILL_BYTE; BUFFER_BYTES];
+    let answer = solver::view(reply, request, &mut buffer[..room]);
+    line_of_bytes("view", answer, &buffer)
 }
 
 fn line_of_bytes(call: &str, answer: Result<usize, Refused>, buffer: &[u8]) -> (String, Option<Refused>) {

@@ -16,7 +16,11 @@ use Rattle.rules.specs.declared.Priced.{Priced}
 use Rattle.rules.specs.declared.Unpacked.{Unpacked}
 use Rattle.rules.proofs.Lengths.{replied-length, packed-length}
 
--- two numbers written to the start of a list
+-- one number, and two, written to the start of a list
+pub one-written : (xs : List ℤ) (a : ℤ) → 1 ≤ length xs → set xs 0 a ≡ over (a ∷ []) xs
+one-written [] a h = absurd (omega arith)
+one-written (x ∷ xs) a h = refl
+
 pub two-written : (xs : List ℤ) (a b : ℤ) → 2 ≤ length xs → set (set xs 0 a) 1 b ≡ over (a ∷ b ∷ []) xs
 two-written [] a b h = absurd (omega arith)
 two-written (x ∷ []) a b h = absurd (omega arith)

@@ -1,9 +1,11 @@
-// The panel's four calls, as C sees them: a slice is a pointer and then a length, an answer is a number. Each does what the call
-// on slices does and tells its answer in numbers (rules 14.1 to 14.4). `include/shahfureel.h` declares them.
+// The panel's calls, as C sees them: a slice is a pointer and then a length, an answer is a number. Each does what the call on
+// slices does and tells its answer in numbers (rules 14.1 to 14.4, 18.8). `include/shahfureel.h` declares them.
 ghost use mathlib.Core.Path.{_≡_};
 ghost use mathlib.Core.Bool.{cond};
 ghost use lib.IntN.{pos};
 ghost use Rattle.rules.specs.Calls.{panelDispatched, panelPriced, panelPacked, panelUnpacked};
+ghost use Rattle.modbus.specs.View.{panelViewed};
+use modbus::Viewed;
 use rules::Dispatched;
 use rules::Packed;
 use rules::Priced;
@@ -72,6 +74,28 @@ pub extern "C" fn shahfureel_unpack(file: &[u8], rows: &mut [u32], answers: &mut
         Unpacked::Read { demand, count } => {
             answers[0] = demand as i64;
             answers[1] = count as i64;
+            0
+        }
+    }
+}
+
+#[no_mangle]
+pub extern "C" fn shahfureel_view(
+    reply: &[u8],
+    request: &[u8],
+    answer: &mut [u8],
+    lengths: &mut [i64],
+) -> u32
+    ensures { λ n. ⌜ panelViewed (now (reply .entry)) (now (request .entry)) (now (answer .entry)) (now (lengths .entry)) ≡ record { number = n; bytes = now (answer .exit); lengths = now (lengths .exit) } ⌝ }
+{
+    if lengths.len() < 1 {
+        return rules::number(Refusal::BufferTooShort);
+    }
+    let viewed = modbus::view(reply, request, answer);
+    match viewed {
+        Viewed::Refused(r) => rules::number(r),
+        Viewed::Answered(length) => {
+            lengths[0] = length as i64;
             0
         }
     }

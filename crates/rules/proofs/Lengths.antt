@@ -27,6 +27,9 @@ use Rattle.rules.specs.declared.Refusal.the-variants.{
   RowsInvalid,
   FileBufferTooShort,
   MultiplierOutOfRange,
+  ReplyMalformed,
+  RequestLengthInvalid,
+  AnswerTooShort,
 }
 use Rattle.rules.specs.declared.Verdict.{Verdict}
 use Rattle.rules.specs.declared.Verdict.the-variants.{Accepted, Refused}
@@ -56,6 +59,9 @@ number-below-30 NoAllocation = omega arith
 number-below-30 RowsInvalid = omega arith
 number-below-30 FileBufferTooShort = omega arith
 number-below-30 MultiplierOutOfRange = omega arith
+number-below-30 ReplyMalformed = omega arith
+number-below-30 RequestLengthInvalid = omega arith
+number-below-30 AnswerTooShort = omega arith
 
 -- ---- lengths
 

@@ -23,6 +23,9 @@ use Rattle.rules.specs.declared.Refusal.the-variants.{
   RowsInvalid,
   FileBufferTooShort,
   MultiplierOutOfRange,
+  ReplyMalformed,
+  RequestLengthInvalid,
+  AnswerTooShort,
 }
 use Rattle.rules.specs.declared.Verdict.{Verdict}
 use Rattle.rules.specs.declared.Verdict.the-variants.{Accepted, Refused}
@@ -45,6 +48,9 @@ numberOf NoAllocation = 11
 numberOf RowsInvalid = 12
 numberOf FileBufferTooShort = 13
 numberOf MultiplierOutOfRange = 14
+numberOf ReplyMalformed = 15
+numberOf RequestLengthInvalid = 16
+numberOf AnswerTooShort = 17
 
 -- what checking finds, as a number: 0 where nothing is refused
 abbrev pub numberOfVerdict : Verdict → ℕ

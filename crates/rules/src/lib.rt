@@ -32,6 +32,12 @@ pub enum Refusal {
     FileBufferTooShort,
     // A multiplier above 65,536.
     MultiplierOutOfRange,
+    // A reply to be viewed that has not the form of a dispatch's.
+    ReplyMalformed,
+    // A request to a view of another length than 5 bytes.
+    RequestLengthInvalid,
+    // A buffer under 252 bytes for a view's answer.
+    AnswerTooShort,
 }
 
 pub fn number(r: Refusal) -> u32
@@ -52,6 +58,9 @@ pub fn number(r: Refusal) -> u32
         Refusal::RowsInvalid => 12,
         Refusal::FileBufferTooShort => 13,
         Refusal::MultiplierOutOfRange => 14,
+        Refusal::ReplyMalformed => 15,
+        Refusal::RequestLengthInvalid => 16,
+        Refusal::AnswerTooShort => 17,
     }
 }
 

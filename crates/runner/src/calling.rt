@@ -12,6 +12,7 @@ use crate::printing::number;
 use crate::printing::rest;
 use crate::printing::signed;
 use crate::printing::word;
+use modbus::Viewed;
 use rules::Dispatched;
 use rules::Packed;
 use rules::Priced;
@@ -178,6 +179,21 @@ fn unpack(file: &[u8], room: usize, numbers: &mut [u32]) -> u32 {
     }
 }
 
+// The bytes before `at` are the reply, the others the request. The answer's buffer is lent as far as there is room.
+fn view(given: &[u8], at: usize, room: usize, bytes: &mut [u8]) -> u32 {
+    let end = least(at, given.len());
+    let lent = least(room, bytes.len());
+    fill_bytes(bytes);
+    let answer = modbus::view(&given[..end], &given[end..], &mut bytes[..lent]);
+    match answer {
+        Viewed::Refused(r) => refused_bytes(r, bytes),
+        Viewed::Answered(length) => {
+            print_written(bytes, length);
+            0
+        }
+    }
+}
+
 // The call that the record names, on what it gives.
 pub fn run(
     call: u16,
@@ -195,6 +211,8 @@ pub fn run(
         pack(argument, given, room, bytes, numbers)
     } else if call == 4 {
         unpack(given, room, numbers)
+    } else if call == 5 {
+        view(given, argument as usize, room, bytes)
     } else {
         word(b"call\n");
         0

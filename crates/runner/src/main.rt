@@ -34,6 +34,8 @@ fn print_call(call: u16) {
         word(b"pack ");
     } else if call == 4 {
         word(b"unpack ");
+    } else if call == 5 {
+        word(b"view ");
     } else {
         word(b"unknown ");
     }
@@ -41,8 +43,8 @@ fn print_call(call: u16) {
 
 // Where the counts keep how often a call gave a refusal, or with number 0 how often it answered.
 fn place(call: u16, refusal: u32) -> usize {
-    if call < 5 && refusal < 15 {
-        15 * call as usize + refusal as usize
+    if call < 16 && refusal < 30 {
+        30 * call as usize + refusal as usize
     } else {
         0
     }
@@ -54,7 +56,7 @@ fn print_total(counts: &[u64], call: u16) {
     number(b"answered ", count_at(counts, place(call, 0)));
     word(b"\n");
     let mut refusal = 1;
-    while refusal < 15 {
+    while refusal < 30 {
         let times = count_at(counts, place(call, refusal));
         if times > 0 {
             print_call(call);
@@ -139,7 +141,7 @@ fn main() {
     let mut head = [0u8; 4];
     io::read_full(STDIN_FILENO, &mut head);
     let records = fields::read_u32(&head, 0);
-    let mut counts = [0u64; 75];
+    let mut counts = [0u64; 480];
     let mut kinds = [0u64; 32];
     let mut given = io::buffer();
     let mut bytes = io::buffer();
@@ -158,4 +160,5 @@ fn main() {
     print_total(&counts, 2);
     print_total(&counts, 3);
     print_total(&counts, 4);
+    print_total(&counts, 5);
 }

@@ -6,10 +6,10 @@ use Rattle.runner.proofs.print_total.Statement.{statement}
 use Rattle.runner.proofs.print_total.Tie as tie
 
 abbrev Inv-loop : tie.InvT-loop
-Inv-loop counts call refusal₀ t7 t8 t9 refusal = (1 ≤ refusal) × (refusal ≤ 15)
+Inv-loop counts call refusal₀ t7 t8 t9 refusal = (1 ≤ refusal) × (refusal ≤ 30)
 
 abbrev μ-loop : tie.MeasureT-loop
-μ-loop counts call refusal₀ t7 t8 t9 refusal = 15 - refusal
+μ-loop counts call refusal₀ t7 t8 t9 refusal = 30 - refusal
 
 print-call-requires : tie.Need-print-call-requires Inv-loop μ-loop
 print-call-requires c κs = search needs

@@ -1,0 +1,4 @@
+pub mod View
+pub mod Answering
+pub mod Registers
+pub mod Views
