@@ -199,10 +199,9 @@ static int attend(const struct reply *r, struct client *c)
 
 /* ---- connections */
 
-static int set_option(int socket, int level, int option)
+static int set_option(int socket, int level, int option, int value)
 {
-    int on = 1;
-    return setsockopt(socket, level, option, &on, sizeof on) == 0;
+    return setsockopt(socket, level, option, &value, sizeof value) == 0;
 }
 
 static int set_nonblocking(int socket)
@@ -211,11 +210,13 @@ static int set_nonblocking(int socket)
     return flags >= 0 && fcntl(socket, F_SETFL, flags | O_NONBLOCK) == 0;
 }
 
-/* Keepalive ends a connection whose other side has vanished; without delay, answers to frames that came together follow at once. */
+/* Keepalive ends a connection whose other side has vanished: after a minute of silence it is asked, three times in ten seconds
+ * each. Without delay, answers to frames that came together follow at once. */
 static int set_up(int connection)
 {
-    return set_nonblocking(connection) && set_option(connection, SOL_SOCKET, SO_KEEPALIVE) &&
-           set_option(connection, IPPROTO_TCP, TCP_NODELAY);
+    return set_nonblocking(connection) && set_option(connection, SOL_SOCKET, SO_KEEPALIVE, 1) &&
+           set_option(connection, IPPROTO_TCP, TCP_KEEPIDLE, 60) && set_option(connection, IPPROTO_TCP, TCP_KEEPINTVL, 10) &&
+           set_option(connection, IPPROTO_TCP, TCP_KEEPCNT, 3) && set_option(connection, IPPROTO_TCP, TCP_NODELAY, 1);
 }
 
 /* Gives a place to a connection, or to none. */
@@ -253,7 +254,7 @@ static int listen_on(uint16_t port)
     struct sockaddr_in address = {.sin_family = AF_INET, .sin_port = htons(port), .sin_addr = {htonl(INADDR_LOOPBACK)}};
     socklen_t length = sizeof address;
     int listening = socket(AF_INET, SOCK_STREAM, 0);
-    if (listening < 0 || !set_nonblocking(listening) || !set_option(listening, SOL_SOCKET, SO_REUSEADDR) ||
+    if (listening < 0 || !set_nonblocking(listening) || !set_option(listening, SOL_SOCKET, SO_REUSEADDR, 1) ||
         bind(listening, (const struct sockaddr *)&address, sizeof address) != 0 || listen(listening, SOMAXCONN) != 0 ||
         getsockname(listening, (struct sockaddr *)&address, &length) != 0) {
         fprintf(stderr, "127.0.0.1 port %u: %s\n", (unsigned)port, strerror(errno));

@@ -196,7 +196,7 @@ enum shahfureel_refusal {
     SHAHFUREEL_FILE_BUFFER_TOO_SHORT = 13,   /* lend a file buffer of 1,480 bytes */
     SHAHFUREEL_MULTIPLIER_OUT_OF_RANGE = 14, /* the multiplier is above 65,536 */
     SHAHFUREEL_REPLY_MALFORMED = 15,         /* the reply is not 28 + 2 * units bytes, units 1 to 32: was its room passed? */
-    SHAHFUREEL_REQUEST_LENGTH = 16,          /* the request is not 5 bytes: one of another function, or with its header? */
+    SHAHFUREEL_REQUEST_LENGTH_INVALID = 16,  /* the request is not 5 bytes: one of another function, or with its header? */
     SHAHFUREEL_ANSWER_TOO_SHORT = 17         /* lend an answer of 252 bytes */
 };
 
@@ -223,13 +223,13 @@ uint32_t shahfureel_pack(uint32_t demand, const uint32_t *rows, size_t rows_leng
 uint32_t shahfureel_unpack(const uint8_t *file, size_t file_length, uint32_t *rows, size_t rows_room, int64_t *answers,
                            size_t answers_room);
 
-/* Answers a request of the Modbus Application Protocol on a reply: register k, counted from 0, is the reply's bytes 2 * k and
- * 2 * k + 1, and there are 14 + units. Returns 0, writes the answer and, as answers[0], the answer's length; or returns a refusal.
+/* Answers a request of the Modbus Application Protocol on a reply, which is 14 + units registers of two bytes, high byte first,
+ * numbered from 0. Returns 0, writes the answer and, as answers[0], the answer's length; or returns a refusal.
  *   - reply_length is exactly what shahfureel_dispatch returned for this reply, not the size of the array that holds it.
  *   - The request is a protocol data unit of 5 bytes, without a header or a checksum of the line: the function, then the start and
  *     the quantity, 2 bytes each.
  *   - Function 3, read holding registers, is answered with the function, the byte count 2 * quantity, and the registers.
- *   - What cannot be served is answered too, with 2 bytes: the function with its top bit set, and the exception: 1 for another
+ *   - What cannot be served is answered too, with 2 bytes: the request's function plus 128, unless it has that bit, and the exception's number: 1 for another
  *     function, else 3 for a quantity outside 1 to 125, else 2 where start + quantity is above 14 + units. That is no refusal.
  * (answer_room counts bytes: at least 252. answers_room counts numbers: at least 1.) */
 uint32_t shahfureel_view(const uint8_t *reply, size_t reply_length, const uint8_t *request, size_t request_length,

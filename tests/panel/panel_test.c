@@ -292,8 +292,8 @@ static void viewing(size_t a)
     view_gives(other, 28, 5, a, 252, 1, SHAHFUREEL_REPLY_MALFORMED, "a reply of no unit is 15");
     other[1] = 2;
     view_gives(other, sizeof other, 5, a, 252, 1, SHAHFUREEL_REPLY_MALFORMED, "a reply of another count is 15");
-    view_gives(U5_REPLY, sizeof U5_REPLY, 4, a, 0, 1, SHAHFUREEL_REQUEST_LENGTH, "16 comes before 17");
-    view_gives(U5_REPLY, sizeof U5_REPLY, 6, a, 252, 1, SHAHFUREEL_REQUEST_LENGTH, "a request of 6 bytes is 16");
+    view_gives(U5_REPLY, sizeof U5_REPLY, 4, a, 0, 1, SHAHFUREEL_REQUEST_LENGTH_INVALID, "16 comes before 17");
+    view_gives(U5_REPLY, sizeof U5_REPLY, 6, a, 252, 1, SHAHFUREEL_REQUEST_LENGTH_INVALID, "a request of 6 bytes is 16");
     view_gives(U5_REPLY, sizeof U5_REPLY, 5, a, 251, 1, SHAHFUREEL_ANSWER_TOO_SHORT, "an answer of 251 bytes is 17");
 }
 

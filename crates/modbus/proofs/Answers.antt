@@ -20,7 +20,7 @@ use Rattle.rules.proofs.Verdicts.{accepts}
 use Rattle.rules.proofs.Encoding.Front.{Front, lent, givenBack, front-none, front-set, front-tail, front-over}
 use Rattle.modbus.specs.declared.Viewed.{Viewed}
 use Rattle.modbus.specs.View.{Request, requestOf, units, values, exceptionTo, exceptionAnswer, normalAnswer, registerCount, malformed, answerOf, viewVerdict, viewEnds, ViewResult, viewed, numberOfViewed, lengthsOfViewed, panelViewed}
-use Rattle.modbus.specs.Answering.{Written}
+use Rattle.modbus.specs.Written.{Written}
 use Rattle.modbus.specs.Registers.{Served}
 
 -- ---- the reply

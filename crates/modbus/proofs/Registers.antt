@@ -1,12 +1,12 @@
 -- What a station may rely on, of the definition: a normal answer's values are the reply's registers, answers side by side are one answer, and what dispatch wrote is served.
 use mathlib.Core.Path.{_≡_, refl, sym, ap, _∙_}
-use mathlib.Core.Bool.{false}
+use mathlib.Core.Bool.{false, not}
 use mathlib.Core.List.{List, [], _∷_, _++_, append-nil}
 use Prim.Native.Nat.{ℕ, _+_, _*_, _≤_, _<_}
 use native.Mathlib.Omega.{arith}
 use native.Mathlib.Decide.{ℕ-discrete, decLt}
-use borrow.Author.Tests.{ltb-false}
-use lib.Dec.{ltb}
+use borrow.Author.Tests.{ltb-false, le-ltb, eq-eqb}
+use lib.Dec.{ltb, eqb}
 use lib.ListN.{length, getD, take, drop, List·getD-append, drop-of-length-le}
 use lib.Seq.{getD-append-add, getD-take, getD-drop, take-add, drop-drop, take-append-seam}
 use Rattle.fields.specs.Field.{field}
@@ -14,12 +14,12 @@ use Rattle.rules.specs.Lists.{over}
 use Rattle.rules.specs.Layout.{caseOf, count}
 use Rattle.rules.specs.Problem.{problemIn, problemOf}
 use Rattle.rules.specs.Bisection.{Reply, solve}
-use Rattle.rules.specs.Refusal.{_refuses_, fileVerdict}
+use Rattle.rules.specs.Refusal.{_refuses_, _then_, fileVerdict}
 use Rattle.rules.specs.Promise.{replyIn}
 use Rattle.rules.specs.Calls.{replyBytes, caseVerdict, dispatchVerdict, dispatchEnds, DispatchResult, dispatched}
 use Rattle.rules.specs.declared.Dispatched.{Dispatched}
 use Rattle.rules.specs.declared.Refusal.{Refusal}
-use Rattle.rules.specs.declared.Refusal.the-variants.{BufferTooShort}
+use Rattle.rules.specs.declared.Refusal.the-variants.{BufferTooShort, ReplyMalformed, RequestLengthInvalid, AnswerTooShort}
 use Rattle.rules.specs.declared.Verdict.{Verdict}
 use Rattle.rules.proofs.Verdicts.{accepts, either-way, then-accepted}
 use Rattle.rules.proofs.Lists.{length-each}
@@ -27,9 +27,9 @@ use Rattle.rules.proofs.Encoding.SoundFile.{SoundHead, sound-file, units-sound}
 use Rattle.rules.proofs.Encoding.ReplyBytes.{length-reply, reply-spelled}
 use Rattle.rules.proofs.Demand3.{case-accepted, reply-count, reply-fits}
 use Rattle.modbus.specs.declared.Viewed.{Viewed}
-use Rattle.modbus.specs.View.{Request, requestOf, units, registerCount, values, withTopBit, normalAnswer, answerOf, viewVerdict, viewEnds, viewed}
+use Rattle.modbus.specs.View.{Request, requestOf, units, registerCount, malformed, values, withTopBit, normalAnswer, answerOf, viewVerdict, viewEnds, viewed}
 use Rattle.modbus.specs.Registers.{Served, IsRegister, NormalAnswer, ExceptionAnswer, Answering, ValuesAreRegisters, reading, SideBySide, ServesDispatch}
-use Rattle.modbus.proofs.Answers.{WellFormed, accepted-view, no-exception, served, with-exception, without-exception, length-values}
+use Rattle.modbus.proofs.Answers.{WellFormed, well-formed, accepted-view, no-exception, served, with-exception, without-exception, length-values}
 
 -- a reply that is viewed has the right form
 accepted-form : (reply request answer : List ℕ) → viewVerdict reply request answer ≡ Verdict.Accepted → WellFormed reply
@@ -88,15 +88,21 @@ values-are-registers reply request answer e = record { normal = normal; exceptio
         (record { answered = refl; topBit = top-bit (requestOf request .function) })
 
 pub side-by-side : SideBySide
-side-by-side reply start a b s t u =
-    let n = registerCount reply in
-    let plain : (s k : ℕ) → Served n (reading s k) → answerOf reply (reading s k) ≡ normalAnswer reply (reading s k) = λ s k h. without-exception reply (reading s k) (no-exception n (reading s k) (h .function) (h .some) (h .few) (h .within)) in
-    let e : 2 * (a + b) ≡ 2 * a + 2 * b = omega arith in
-    let f : 2 * start + 2 * a ≡ 2 * (start + a) = omega arith in
-    rw (plain start (a + b) u, plain start a s, plain (start + a) b t, e)
-    (take-add (2 * a) (2 * b) (drop (2 * start) reply) ∙ ap (λ (l : List ℕ). take (2 * a) (drop (2 * start) reply) ++ take (2 * b) l) (drop-drop (2 * a) (2 * start) reply ∙ ap (λ (k : ℕ). drop k reply) f))
+side-by-side reply start a b e s t =
+    let w = well-formed {reply = reply} e in
+    let both : Served (14 + units reply) (reading start (a + b)) = record { function = refl; some = omega (arith, s .some); few = omega (arith, t .within, w .few); within = omega (arith, t .within) } in
+    let k : 2 * (a + b) ≡ 2 * a + 2 * b = omega arith in
+    let f : 2 * start + 2 * a ≡ 2 * (start + a) = omega arith in (
+      both,
+      rw (plain reply (reading start (a + b)) both, plain reply (reading start a) s, plain reply (reading (start + a) b) t, k)
+          (take-add (2 * a) (2 * b) (drop (2 * start) reply) ∙ ap (λ (l : List ℕ). take (2 * a) (drop (2 * start) reply) ++ take (2 * b) l) (drop-drop (2 * a) (2 * start) reply ∙ ap (λ (n : ℕ). drop n reply) f)),
+    )
 
 -- ---- what dispatch wrote
+
+-- the later checks give other numbers
+not-malformed : (request answer : List ℕ) → ¬ ((not (eqb (length request) 5) refuses RequestLengthInvalid then ltb (length answer) 252 refuses AnswerTooShort) ≡ Verdict.Refused ReplyMalformed)
+not-malformed request answer = either-way (λ (v : Verdict). ¬ ((v then ltb (length answer) 252 refuses AnswerTooShort) ≡ Verdict.Refused ReplyMalformed)) (not (eqb (length request) 5)) (λ _ e. absurd (let y : _≡_ {A = ℕ} 0 1 = cc in omega arith)) (λ _. either-way (λ (v : Verdict). ¬ (v ≡ Verdict.Refused ReplyMalformed)) (ltb (length answer) 252) (λ _ e. absurd (let y : _≡_ {A = ℕ} 0 1 = cc in omega arith)) (λ _ e. absurd (let y : _≡_ {A = ℕ} 0 1 = cc in omega arith)))
 
 module _ (file : List ℕ) (e : caseVerdict file ≡ Verdict.Accepted) where
   accepted : fileVerdict file ≡ Verdict.Accepted
@@ -134,10 +140,13 @@ module _ (file : List ℕ) (e : caseVerdict file ≡ Verdict.Accepted) where
         long = omega (arith, units-are, outputs-are, length-reply (solve (problemIn file)));
       }
 
+  well-made : malformed out ≡ false
+  well-made = let w = written-form in rw (le-ltb (units out) 1 (w .some), le-ltb 32 (units out) (w .few), eq-eqb (length out) (28 + 2 * units out) (w .long))
+
   -- and the checks of a view pass
-  pub written-served : (request answer : List ℕ) → length request ≡ 5 → 252 ≤ length answer → viewVerdict out request answer ≡ Verdict.Accepted
+  pub written-served : (request answer : List ℕ) → let v = viewVerdict out request answer in ¬ (v ≡ Verdict.Refused ReplyMalformed) × (length request ≡ 5 → 252 ≤ length answer → v ≡ Verdict.Accepted)
   unfolding viewVerdict
-  written-served request answer five room = let w = written-form in simp accepts (((w .some, w .few), w .long), (five, room))
+  written-served request answer = (rw well-made (not-malformed request answer), λ five room. let w = written-form in simp accepts (((w .some, w .few), w .long), (five, room)))
 
 module _ (file buffer : List ℕ) where
   case-verdict : dispatchVerdict file buffer ≡ Verdict.Accepted → caseVerdict file ≡ Verdict.Accepted
@@ -153,9 +162,9 @@ module _ (file buffer : List ℕ) where
   replied-dispatch v = rw v
 
 pub serves-dispatch : ServesDispatch
-serves-dispatch file buffer n r request answer five room = by (dispatchVerdict file buffer) refl
+serves-dispatch file buffer n r request answer = by (dispatchVerdict file buffer) refl
   where
-    by : (v : Verdict) → dispatchVerdict file buffer ≡ v → viewVerdict (take n (dispatched file buffer .reply)) request answer ≡ Verdict.Accepted
+    by : (v : Verdict) → dispatchVerdict file buffer ≡ v → let w = viewVerdict (take n (dispatched file buffer .reply)) request answer in ¬ (w ≡ Verdict.Refused ReplyMalformed) × (length request ≡ 5 → 252 ≤ length answer → w ≡ Verdict.Accepted)
     by (Verdict.Refused x) v =
         let z : Dispatched.Refused x ≡ Dispatched.Replied n = sym (refused-dispatch file buffer x v) ∙ r in
         absurd (let y : _≡_ {A = ℕ} 0 1 = cc in omega arith)
@@ -164,4 +173,4 @@ serves-dispatch file buffer n r request answer five room = by (dispatchVerdict f
         let d = replied-dispatch file buffer v in
         let z : Dispatched.Replied (length (out file e)) ≡ Dispatched.Replied n = sym (ap (λ (x : DispatchResult). x .answer) d) ∙ r in
         let k : length (out file e) ≡ n = cc in
-        rw (d, ← k, take-append-seam) (written-served file e request answer five room)
+        rw (d, ← k, take-append-seam) (written-served file e request answer)

@@ -1,4 +1,4 @@
 pub mod View
-pub mod Answering
+pub mod Written
 pub mod Registers
 pub mod Views

@@ -1,13 +1,15 @@
 -- Rules 18.9 to 18.11 of docs/SPECIFICATION.md: what a station may rely on. Of the code's types it names only the answers' enums.
 use Prim.Native.Nat.{ℕ, _+_, _*_, _≤_, _<_}
+use mathlib.Core.Bool.{false}
 use mathlib.Core.List.{List, _++_}
 use mathlib.Core.Path.{_≡_}
 use lib.ListN.{length, getD, take, drop}
 use Rattle.rules.specs.Calls.{dispatched}
 use Rattle.rules.specs.declared.Dispatched.{Dispatched}
+use Rattle.rules.specs.declared.Refusal.the-variants.{ReplyMalformed}
 use Rattle.rules.specs.declared.Verdict.{Verdict}
 use Rattle.modbus.specs.declared.Viewed.{Viewed}
-use Rattle.modbus.specs.View.{Request, requestOf, registerCount, answerOf, viewVerdict, ViewResult, viewed}
+use Rattle.modbus.specs.View.{Request, requestOf, units, malformed, answerOf, viewVerdict, ViewResult, viewed}
 
 -- a request for registers that there are
 pub record Served (registers : ℕ) (q : Request) : Type 0 where
@@ -34,8 +36,8 @@ pub record ExceptionAnswer (result : ViewResult) : Type 0 where
   pub topBit : 128 ≤ getD (result .bytes) 0 0
 
 pub record Answering (reply request answer : List ℕ) : Type 0 where
-  pub normal : Served (registerCount reply) (requestOf request) → NormalAnswer reply (requestOf request) (viewed reply request answer)
-  pub exceptional : ¬ Served (registerCount reply) (requestOf request) → ExceptionAnswer (viewed reply request answer)
+  pub normal : Served (14 + units reply) (requestOf request) → NormalAnswer reply (requestOf request) (viewed reply request answer)
+  pub exceptional : ¬ Served (14 + units reply) (requestOf request) → ExceptionAnswer (viewed reply request answer)
 
 abbrev pub ValuesAreRegisters : Type 0
 ValuesAreRegisters = (reply request answer : List ℕ) → viewVerdict reply request answer ≡ Verdict.Accepted → Answering reply request answer
@@ -46,13 +48,14 @@ reading start quantity = record { function = 3; start = start; quantity = quanti
 
 abbrev pub SideBySide : Type 0
 SideBySide =
-    (reply : List ℕ) (start a b : ℕ) → let n = registerCount reply in
-    Served n (reading start a) → Served n (reading (start + a) b) → Served n (reading start (a + b))
-    → drop 2 (answerOf reply (reading start (a + b))) ≡ drop 2 (answerOf reply (reading start a)) ++ drop 2 (answerOf reply (reading (start + a) b))
+    (reply : List ℕ) (start a b : ℕ) → malformed reply ≡ false → let n = 14 + units reply in
+    Served n (reading start a) → Served n (reading (start + a) b)
+    → Served n (reading start (a + b))
+    × (drop 2 (answerOf reply (reading start (a + b))) ≡ drop 2 (answerOf reply (reading start a)) ++ drop 2 (answerOf reply (reading (start + a) b)))
 
--- (rule 18.11) every reply that dispatch writes is served: a request of 5 bytes and room for an answer are not refused
+-- (rule 18.11) every reply that dispatch writes is served: it is never refused itself, and nothing is where the request has 5 bytes and the answer room
 abbrev pub ServesDispatch : Type 0
 ServesDispatch =
     (file buffer : List ℕ) (n : ℕ) → dispatched file buffer .answer ≡ Dispatched.Replied n
-    → (request answer : List ℕ) → length request ≡ 5 → 252 ≤ length answer
-    → viewVerdict (take n (dispatched file buffer .reply)) request answer ≡ Verdict.Accepted
+    → (request answer : List ℕ) → let v = viewVerdict (take n (dispatched file buffer .reply)) request answer in
+    ¬ (v ≡ Verdict.Refused ReplyMalformed) × (length request ≡ 5 → 252 ≤ length answer → v ≡ Verdict.Accepted)

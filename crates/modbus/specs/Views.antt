@@ -17,6 +17,7 @@ pub data Call : Type 0 where
   askInto : List ℕ → List ℕ → List ℕ → Call
   -- as C sees it: the answer has 252 bytes, 255 in each; the lent list comes last
   panelAsk : List ℕ → List ℕ → List ℤ → Call
+  panelAskInto : List ℕ → List ℕ → List ℕ → List ℤ → Call
 
 pub data Result : Type 0 where
   answersInto : ℕ → List ℕ → Result
@@ -39,6 +40,7 @@ unfolding numberAfter exceptionTo answerOf viewVerdict viewEnds viewed panelView
 result (ask reply request) = let r = viewed reply request buffer in ofView (r .answer) (r .bytes)
 result (askInto reply request answer) = let r = viewed reply request answer in ofView (r .answer) (r .bytes)
 result (panelAsk reply request lengths) = let r = panelViewed reply request buffer lengths in returns (r .number) (r .bytes) (r .lengths)
+result (panelAskInto reply request answer lengths) = let r = panelViewed reply request answer lengths in returns (r .number) (r .bytes) (r .lengths)
 
 pub record Row : Type 0 where
   pub call : Call
@@ -48,13 +50,17 @@ pub record Row : Type 0 where
 abbrev pub read : ℕ → ℕ → List ℕ
 read start quantity = 3 ∷ 0 ∷ start ∷ 0 ∷ quantity ∷ []
 
+-- a reply of 32 units, 92 bytes, its last output 0x1234
+unfoldable pub full : List ℕ
+full = put 0 (0x00 ∷ 0x20 ∷ []) (u5Reply ++ replicate 60 0 ++ (0x12 ∷ 0x34 ∷ []))
+
 unfoldable pub views : List Row
 views =
     -- registers numbered from 1; low byte first; the quantity for the number of bytes
     record { call = ask u5Reply (read 0 2); result = answers (0x03 ∷ 0x04 ∷ 0x00 ∷ 0x01 ∷ 0x00 ∷ 0x12 ∷ []) }
     -- a register of another place, or a byte for a register
     ∷ record { call = ask u5Reply (read 4 2); result = answers (0x03 ∷ 0x04 ∷ 0x00 ∷ 0x01 ∷ 0xD0 ∷ 0xD8 ∷ []) }
-    -- the last register not served: 14 + n taken for the greatest quantity less one
+    -- the last register not served: 13 + n taken for 14 + n
     ∷ record { call = ask u5Reply (read 14 1); result = answers (0x03 ∷ 0x02 ∷ 0x00 ∷ 0x07 ∷ []) }
     -- all registers at once not served
     ∷ record { call = ask u5Reply (read 0 15); result = answers (0x03 ∷ 0x1E ∷ u5Reply) }
@@ -68,6 +74,9 @@ views =
     ∷ record { call = ask u5Reply (read 0 0); result = answers (0x83 ∷ 0x03 ∷ []) }
     -- a quantity of 126 not refused for itself; 2 before 3
     ∷ record { call = ask u5Reply (read 0 126); result = answers (0x83 ∷ 0x03 ∷ []) }
+    -- a start past the end gives 2 before 3
+    ∷ record { call = ask u5Reply (read 16 0); result = answers (0x83 ∷ 0x03 ∷ []) }
+    ∷ record { call = ask u5Reply (0x03 ∷ 0xFF ∷ 0xFF ∷ 0x00 ∷ 0x7E ∷ []); result = answers (0x83 ∷ 0x03 ∷ []) }
     -- a quantity of 125 refused for itself
     ∷ record { call = ask u5Reply (read 0 125); result = answers (0x83 ∷ 0x02 ∷ []) }
     -- the quantity's high byte left out
@@ -76,6 +85,19 @@ views =
     ∷ record { call = ask u5Reply (0x03 ∷ 0x01 ∷ 0x00 ∷ 0x00 ∷ 0x01 ∷ []); result = answers (0x83 ∷ 0x02 ∷ []) }
     -- start + quantity computed in 16 bits
     ∷ record { call = ask u5Reply (0x03 ∷ 0xFF ∷ 0xFF ∷ 0x00 ∷ 0x02 ∷ []); result = answers (0x83 ∷ 0x02 ∷ []) }
+    -- the top bits of start and quantity left out
+    ∷ record { call = ask u5Reply (0x03 ∷ 0x80 ∷ 0x00 ∷ 0x00 ∷ 0x01 ∷ []); result = answers (0x83 ∷ 0x02 ∷ []) }
+    ∷ record { call = ask u5Reply (0x03 ∷ 0x00 ∷ 0x00 ∷ 0x80 ∷ 0x01 ∷ []); result = answers (0x83 ∷ 0x03 ∷ []) }
+    -- functions up to 3 served
+    ∷ record { call = ask u5Reply (0x02 ∷ 0x00 ∷ 0x00 ∷ 0x00 ∷ 0x01 ∷ []); result = answers (0x82 ∷ 0x01 ∷ []) }
+    -- the top bit set only of some functions
+    ∷ record { call = ask u5Reply (0x10 ∷ 0x00 ∷ 0x00 ∷ 0x00 ∷ 0x01 ∷ []); result = answers (0x90 ∷ 0x01 ∷ []) }
+    ∷ record { call = ask u5Reply (0x7F ∷ 0x00 ∷ 0x00 ∷ 0x00 ∷ 0x01 ∷ []); result = answers (0xFF ∷ 0x01 ∷ []) }
+    ∷ record { call = ask u5Reply (0x80 ∷ 0x00 ∷ 0x00 ∷ 0x00 ∷ 0x01 ∷ []); result = answers (0x80 ∷ 0x01 ∷ []) }
+    -- 2 before 1
+    ∷ record { call = ask u5Reply (0x04 ∷ 0xFF ∷ 0xFF ∷ 0x00 ∷ 0x01 ∷ []); result = answers (0x84 ∷ 0x01 ∷ []) }
+    -- a large quantity's 3 before 1
+    ∷ record { call = ask u5Reply (0x04 ∷ 0x00 ∷ 0x00 ∷ 0x00 ∷ 0x7E ∷ []); result = answers (0x84 ∷ 0x01 ∷ []) }
     -- another function served, or its exception without the top bit
     ∷ record { call = ask u5Reply (0x04 ∷ 0x00 ∷ 0x00 ∷ 0x00 ∷ 0x01 ∷ []); result = answers (0x84 ∷ 0x01 ∷ []) }
     -- the top bit added, not set
@@ -90,6 +112,17 @@ views =
     ∷ record { call = ask (put 0 (0x00 ∷ 0x21 ∷ []) (u5Reply ++ replicate 64 0)) (read 0 1); result = refuses 15 buffer }
     -- a reply of 32 units not served (92 bytes)
     ∷ record { call = ask (put 0 (0x00 ∷ 0x20 ∷ []) (u5Reply ++ replicate 62 0)) (read 0 1); result = answers (0x03 ∷ 0x02 ∷ 0x00 ∷ 0x20 ∷ []) }
+    -- fewer registers than 14 + n where n is above 2; one more
+    ∷ record { call = ask full (read 45 1); result = answers (0x03 ∷ 0x02 ∷ 0x12 ∷ 0x34 ∷ []) }
+    ∷ record { call = ask full (read 0 46); result = answers (0x03 ∷ 0x5C ∷ full) }
+    ∷ record { call = ask full (read 46 1); result = answers (0x83 ∷ 0x02 ∷ []) }
+    -- a reply judged by more than n and its length
+    ∷ record { call = ask (0x00 ∷ 0x01 ∷ replicate 28 255) (read 13 2); result = answers (0x03 ∷ 0x04 ∷ 0xFF ∷ 0xFF ∷ 0xFF ∷ 0xFF ∷ []) }
+    -- a reply of 30 + 2n bytes served, or of an odd length
+    ∷ record { call = ask (u5Reply ++ (0x00 ∷ 0x00 ∷ [])) (read 0 1); result = refuses 15 buffer }
+    ∷ record { call = ask (u5Reply ++ (0x00 ∷ [])) (read 0 1); result = refuses 15 buffer }
+    -- a reply of 26 + 2n bytes served
+    ∷ record { call = ask (take 30 siteReply) (read 0 1); result = refuses 15 buffer }
     -- n read from one byte
     ∷ record { call = ask (put 0 (0x01 ∷ 0x01 ∷ []) u5Reply) (read 0 1); result = refuses 15 buffer }
     -- a reply with its buffer's rest served
@@ -105,6 +138,10 @@ views =
     ∷ record { call = ask u5Reply (read 0 1 ++ (0x00 ∷ [])); result = refuses 16 buffer }
     -- an answer of 251 bytes taken where the exception needs 2
     ∷ record { call = askInto u5Reply (read 0 0) (replicate 251 255); result = refuses 17 (replicate 251 255) }
+    -- the same, for exceptions 1 and 2, and for an answer of 4 bytes
+    ∷ record { call = askInto u5Reply (0x04 ∷ 0x00 ∷ 0x00 ∷ 0x00 ∷ 0x01 ∷ []) (replicate 251 255); result = refuses 17 (replicate 251 255) }
+    ∷ record { call = askInto u5Reply (read 15 1) (replicate 251 255); result = refuses 17 (replicate 251 255) }
+    ∷ record { call = askInto u5Reply (read 0 1) (replicate 251 255); result = refuses 17 (replicate 251 255) }
     -- 16 before 15
     ∷ record { call = ask [] []; result = refuses 15 buffer }
     -- 17 before 15
@@ -117,10 +154,14 @@ views =
     ∷ record { call = panelAsk u5Reply (read 0 0) (pos 8 ∷ []); result = returns 0 ((0x83 ∷ 0x03 ∷ []) ++ replicate 250 255) (pos 2 ∷ []) }
     -- C: 15 before 1
     ∷ record { call = panelAsk [] [] []; result = returns 1 buffer [] }
-    -- C: the list written before a refusal
+    -- C: 16 before 1
+    ∷ record { call = panelAsk u5Reply [] []; result = returns 1 buffer [] }
+    -- C: another number than the call's, or the list written before a refusal
+    ∷ record { call = panelAsk [] [] (pos 8 ∷ []); result = returns 15 buffer (pos 8 ∷ []) }
     ∷ record { call = panelAsk u5Reply [] (pos 8 ∷ []); result = returns 16 buffer (pos 8 ∷ []) }
+    ∷ record { call = panelAskInto u5Reply (read 0 1) (replicate 251 255) (pos 8 ∷ []); result = returns 17 (replicate 251 255) (pos 8 ∷ []) }
     ∷ []
 
 pub views-hold : map (λ r. result (r .call)) views ≡ map (λ r. r .result) views
-unfolding result views u5Reply siteReply
+unfolding result views full u5Reply siteReply
 views-hold = refl

@@ -6,7 +6,7 @@ ghost use Prim.Native.Nat.{_+_, _*_, _≤_, _<_};
 ghost use lib.ListN.{length, take, drop};
 ghost use Rattle.rules.specs.Lists.{over};
 ghost use Rattle.modbus.specs.View.{exceptionTo, withTopBit, exceptionAnswer, normalAnswer, malformed, viewed};
-ghost use Rattle.modbus.specs.Answering.{Written};
+ghost use Rattle.modbus.specs.Written.{Written};
 use rules::Refusal;
 
 // What the view answers: the length of the answer that it wrote.
@@ -19,7 +19,7 @@ pub enum Viewed {
 fn reply_malformed(reply: &[u8]) -> bool
     ensures { λ r. ⌜ r ≡ malformed (now (reply .entry)) ⌝ }
 {
-    if reply.len() < 30 {
+    if reply.len() < 2 {
         return true;
     }
     let n = fields::read_u16(reply, 0) as usize;

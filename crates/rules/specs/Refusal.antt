@@ -1,4 +1,4 @@
--- Rules 4.1 to 4.8 of docs/SPECIFICATION.md: the refusals, their numbers, and the checks of a file and of a unit in their order. (The order of each call as a whole is in `Calls`.)
+-- Rules 4.1 to 4.8 of docs/SPECIFICATION.md: the refusals, their numbers, and the checks of a file and of a unit in their order. (The order of each call as a whole is in `Calls`, of the Modbus view in `modbus/specs/View`.)
 use Prim.Native.Nat.{ℕ, zero, suc, _+_, _*_}
 use mathlib.Core.Bool.{Bool, cond, not, _&&_, _||_}
 use mathlib.Core.List.{List, [], _∷_}

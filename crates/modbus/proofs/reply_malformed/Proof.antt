@@ -7,7 +7,7 @@ use Rattle.modbus.proofs.reply_malformed.Statement.{statement}
 use Rattle.modbus.proofs.reply_malformed.Tie as tie
 
 returns : tie.Need-returns
-returns c = rw (short-malformed _ (c .if1 .taken))
+returns c = rw (short-malformed (now (c .before .before .args .reply)) (omega (arith, c .if1 .taken)))
 
 read-u16-requires : tie.Need-read-u16-requires
 read-u16-requires c κs = search needs
