@@ -17,7 +17,8 @@ use Rattle.rules.proofs.Sound.{Sound, ascending as zones-ascending, zone-betwee
 use Rattle.rules.proofs.Economics.Outputs.{stands-permitted, runs-permitted, permitted-greatest}
 use Rattle.site.specs.declared.Window.{Window}
 use Rattle.site.specs.Site.{low, high, Between}
-use Rattle.site.specs.Writing.{KeptOutside, Windowed, Ascending, Inside, RegionsWritten}
+use Rattle.site.specs.Writing.{KeptOutside, Ascending, Inside, RegionsWritten}
+use Rattle.site.proofs.Windowed.{Windowed}
 use Rattle.site.proofs.KeptOutside.{kept-all, kept-set, kept-then, first-written, second-written, both-kept}
 use Rattle.site.proofs.Ascending.{Pushable, Pushed, pushed, counted, push, at-most-one, one-true}
 use Rattle.site.proofs.Zones.{outside, before-zone, after-zone, within-zone, next-zone}

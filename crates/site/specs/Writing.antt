@@ -1,11 +1,11 @@
--- What each function requires and leaves while a site is written: which places of an array it keeps, the regions that it has written so far, and the ramp window as an interval.
-use Prim.Native.Nat.{ℕ, _+_, _*_, _≤_, _<_}
+-- What each function requires and leaves while a site is written: which places of an array it keeps, the regions that it has written so far, and the ends of the ramp window.
+use Prim.Native.Nat.{ℕ, _+_, _*_, _-_, _≤_, _<_}
 use mathlib.Core.Path.{_≡_}
 use mathlib.Core.Bool.{Bool, true, false}
 use mathlib.Core.List.{List, []}
 use mathlib.Core.Logic.{_↔_}
 use lib.ListN.{getD}
-use Rattle.rules.specs.Unit.{Unit, permitted, inRampWindow}
+use Rattle.rules.specs.Unit.{Unit, permitted}
 use Rattle.rules.specs.Layout.{count}
 use Rattle.rules.specs.Refusal.{headVerdict, contentsVerdict}
 use Rattle.rules.specs.Problem.{Offer, offer}
@@ -23,10 +23,10 @@ pub record KeptOutside (from to : ℕ) (before after : List ℕ) : Type 0 where
 
 -- ---- the regions of one unit
 
--- the running outputs that the ramp limits leave are those from w .from to w .to
-pub record Windowed (u : Unit) (w : Window) : Type 0 where
-  pub limit : w .from ≤ 10000
-  pub window : (p : ℕ) → p ≤ u .greatest → (inRampWindow u p ≡ true) ↔ Between (w .from) (w .to) p
+-- from previous − down, or from 0, to previous + up; without a previous output from 0 to greatest
+pub record Ramped (greatest previous up down : ℕ) (w : Window) : Type 0 where
+  pub none : previous ≡ 0 → (w .from ≡ 0) × (w .to ≡ greatest)
+  pub some : 0 < previous → (w .from ≡ previous - down) × (w .to ≡ previous + up)
 
 -- the regions start .. next − 1 ascend and lie apart; each has running outputs only, or output 0 alone
 pub record Ascending (ends : List ℕ) (start next : ℕ) : Type 0 where

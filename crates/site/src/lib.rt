@@ -18,6 +18,6 @@ pub enum Decoded {
 
 // The running outputs that the ramp limits leave.
 pub struct Window {
-    pub from: u32,
-    pub to: u32,
+    pub from: u16,
+    pub to: u16,
 }

@@ -1,57 +1,63 @@
-// A unit's permitted outputs as regions, found once: 0..0 if it may stand, then what zones and ramp window leave.
+// A checked unit's permitted outputs as regions, found once: 0..0 if it may stand, then what zones and ramp window leave. From here
+// on an output is a 16-bit number, until it is multiplied.
 ghost use mathlib.Core.Path.{_≡_};
-ghost use Prim.Native.Nat.{_+_, _*_, _≤_, _<_, max, min};
+ghost use Prim.Native.Nat.{ℕ, _+_, _*_, _≤_, _<_, max, min};
 ghost use lib.ListN.{length, getD};
 ghost use Rattle.rules.proofs.Sound.{Sound};
 ghost use Rattle.unit.specs.UnitHeld.{unitHeld};
-ghost use Rattle.site.specs.Writing.{Windowed, RegionsWritten};
+ghost use Rattle.site.specs.Writing.{Ramped, RegionsWritten};
 use crate::Window;
 use unit::Unit;
 
-fn larger(a: u32, b: u32) -> u32
+fn larger(a: u16, b: u16) -> u16
     ensures { λ r. ⌜ r ≡ max a b ⌝ }
 {
     if a < b { b } else { a }
 }
 
-fn smaller(a: u32, b: u32) -> u32
+fn smaller(a: u16, b: u16) -> u16
     ensures { λ r. ⌜ r ≡ min a b ⌝ }
 {
     if a < b { a } else { b }
 }
 
-// From previous − down to previous + up if the previous output is above 0, else all.
-fn ramp_window(u: Unit) -> Window
-    requires { ⌜ Sound (unitHeld u) ⌝ }
-    ensures { λ r. ⌜ Windowed (unitHeld u) r ⌝ }
+// The edges of a checked unit in 16 bits.
+fn narrow(edges: [u32; 8]) -> [u16; 8]
+    requires { ⌜ ((k : ℕ) → getD edges k 0 ≤ 10000) ⌝ }
+    ensures { λ r. ⌜ r ≡ edges ⌝ }
 {
-    let Unit {
-        greatest,
-        previous,
-        up,
-        down,
-        ..
-    } = u;
+    let mut narrowed = [0u16; 8];
+    let mut k = 0;
+    while k < 8 {
+        narrowed[k] = edges[k] as u16;
+        k += 1;
+    }
+    narrowed
+}
+
+// From previous − down to previous + up, at most 20,000, if the previous output is above 0, else all.
+fn ramp_window(greatest: u16, previous: u16, up: u16, down: u16) -> Window
+    requires { ⌜ (previous ≤ 10000) × (up ≤ 10000) ⌝ }
+    ensures { λ r. ⌜ Ramped greatest previous up down r ⌝ }
+{
     if previous == 0 {
         return Window {
             from: 0,
             to: greatest,
         };
     }
+    let to = previous + up;
     if previous < down {
-        return Window {
-            from: 0,
-            to: previous + up,
-        };
+        return Window { from: 0, to };
     }
     Window {
         from: previous - down,
-        to: previous + up,
+        to,
     }
 }
 
 // Where interval `k` ends: at the lower edge of zone `k`, or behind the last zone at `greatest`.
-fn interval_end(edges: &[u32; 8], zones: usize, greatest: u32, k: usize) -> u32
+fn interval_end(edges: &[u16; 8], zones: usize, greatest: u16, k: usize) -> u16
     requires { ⌜ zones ≤ 4 ⌝ }
     ensures { λ r. ⌜ (k < zones → r ≡ getD (now (edges .entry)) (2 * k) 0) × (zones ≤ k → r ≡ greatest) ⌝ }
 {
@@ -67,28 +73,35 @@ pub fn write_regions(u: Unit, start: usize, ends: &mut [u16]) -> usize
 {
     let Unit {
         least,
+        greatest,
+        previous,
+        up,
+        down,
         mark,
-        zone_count,
         edges,
         ..
     } = u;
-    let ramp = ramp_window(u);
-    let zones = zone_count as usize;
+    let lowest = least as u16;
+    let highest = greatest as u16;
+    let ramp = ramp_window(highest, previous as u16, up as u16, down as u16);
+    let narrowed = narrow(edges);
     ends[2 * start] = 0;
     ends[2 * start + 1] = 0;
     let mut next = start + (mark == 0) as usize;
-    let mut from = least;
+    let mut from = lowest;
     let mut k = 0;
     loop {
         let low = larger(from, ramp.from);
-        let high = smaller(interval_end(&edges, zones, u.greatest, k), ramp.to);
-        ends[2 * next] = low as u16;
-        ends[2 * next + 1] = high as u16;
+        // (read here, so that the loop's invariant may speak of the unit)
+        let zones = u.zone_count as usize;
+        let high = smaller(interval_end(&narrowed, zones, highest, k), ramp.to);
+        ends[2 * next] = low;
+        ends[2 * next + 1] = high;
         next += (low <= high) as usize;
         if k == zones {
             return next;
         }
-        from = edges[2 * k + 1];
+        from = narrowed[2 * k + 1];
         k += 1;
     }
 }

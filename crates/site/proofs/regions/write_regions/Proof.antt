@@ -7,37 +7,39 @@ use denote.Ref.{now}
 use Rattle.unit.specs.UnitHeld.{unitHeld}
 use Rattle.site.proofs.Ascending.{Pushable, at-most-one}
 use Rattle.site.proofs.Dividing.{Dividing, Turn, standing, standing-kept, dividing-starts, pushable, dividing-more, dividing-ends}
+use Rattle.rules.proofs.Sound.{edge-small}
+use Rattle.site.proofs.Windowed.{windowed}
 use Rattle.site.proofs.regions.write_regions.Statement.{statement}
 use Rattle.site.proofs.regions.write_regions.Tie as tie
 
 abbrev Inv-loop : tie.InvT-loop
-Inv-loop u start ends₀ least mark zone-count edges ramp zones next₀ from₀ k₀ ends next from k = Dividing (unitHeld u) start ends₀ ends next from k
+Inv-loop u start ends₀ least greatest previous up down mark lowest highest ramp narrowed next₀ from₀ k₀ ends next from k = Dividing (unitHeld u) start ends₀ ends next from k
 
 abbrev μ-loop : tie.MeasureT-loop
-μ-loop u start ends₀ least mark zone-count edges ramp zones next₀ from₀ k₀ ends next from k = zones - k
+μ-loop u start ends₀ least greatest previous up down mark lowest highest ramp narrowed next₀ from₀ k₀ ends next from k = u .«zone_count» - k
 
 -- from a turn back to the loop, and to the start
 abbrev at : tie.After-smaller Inv-loop μ-loop → tie.At-loop Inv-loop μ-loop
-at c = c .before .before .before .before
+at c = c .before .before .before .before .before
 
 abbrev entry : tie.After-smaller Inv-loop μ-loop → tie.Start Inv-loop μ-loop
-entry c = at c .before .before .before .before
+entry c = at c .before .before .before .before .before
 
-turn : (c : tie.After-smaller Inv-loop μ-loop) → let l = at c .loop in Turn (unitHeld (entry c .args .u)) (entry c .args .start) (standing (now (entry c .args .ends)) (entry c .args .start)) (l .ends) (l .next) (l .from) (l .k) (c .before .before .before .larger .result) (c .smaller .result)
+turn : (c : tie.After-smaller Inv-loop μ-loop) → let l = at c .loop in Turn (unitHeld (entry c .args .u)) (entry c .args .start) (standing (now (entry c .args .ends)) (entry c .args .start)) (l .ends) (l .next) (l .from) (l .k) (c .before .before .before .before .larger .result) (c .smaller .result)
 turn c =
     record {
       sound = entry c .pre .0;
       dividing = at c .loop .inv;
-      window = at c .before .ramp-window .result;
-      windowed = at c .before .ramp-window .ensures;
+      window = at c .before .before .ramp-window .result;
+      windowed = windowed (entry c .pre .0) (at c .before .before .ramp-window .ensures);
       end = c .before .interval-end .result;
-      ends-at = c .before .interval-end .ensures;
-      lower = c .before .before .before .larger .ensures;
+      ends-at = rw (at c .before .narrow .ensures) at (c .before .interval-end .ensures);
+      lower = c .before .before .before .before .larger .ensures;
       upper = c .smaller .ensures;
     }
 
 -- its interval may be put behind the regions
-interval : (c : tie.After-smaller Inv-loop μ-loop) → Pushable (at c .loop .ends) (entry c .args .start) (at c .loop .next) (c .before .before .before .larger .result) (c .smaller .result)
+interval : (c : tie.After-smaller Inv-loop μ-loop) → Pushable (at c .loop .ends) (entry c .args .start) (at c .loop .next) (c .before .before .before .before .larger .result) (c .smaller .result)
 interval c = pushable (turn c)
 
 -- a zone is left
@@ -50,7 +52,7 @@ zone-left c =
 
 loop-holds : tie.Need-loop-holds Inv-loop μ-loop
 loop-holds c =
-    let s = c .before .before .before in
+    let s = c .before .before .before .before in
     dividing-starts (s .pre .0) (s .args .start) (now (s .args .ends)) (s .pre .1)
 
 returns : tie.Need-returns Inv-loop μ-loop
@@ -59,15 +61,31 @@ returns c =
     dividing-ends (turn (c .before)) (c .if1 .taken) (standing-kept (now (s .args .ends)) (s .args .start) (s .pre .1))
 
 loop-again : tie.Need-loop-again Inv-loop μ-loop
-loop-again c = dividing-more (turn (c .before)) (zone-left c .0)
+loop-again c = rw (at (c .before) .before .narrow .ensures) (dividing-more (turn (c .before)) (zone-left c .0))
 
 -- ---- what is called, and places and numbers in range
 
-ramp-window-requires : tie.Need-ramp-window-requires Inv-loop μ-loop
-ramp-window-requires c κs = c .before .before .pre .0
+-- what is read of the unit fits 16 bits
+cast-highest : tie.Need-cast-highest Inv-loop μ-loop
+cast-highest c = omega (arith, c .before .before .pre .0)
 
-cast-zones : tie.Need-cast-zones Inv-loop μ-loop
-cast-zones c = omega arith
+cast-ramp-window : tie.Need-cast-ramp-window Inv-loop μ-loop
+cast-ramp-window c = omega (arith, c .before .before .pre .0)
+
+cast-ramp-window-2 : tie.Need-cast-ramp-window-2 Inv-loop μ-loop
+cast-ramp-window-2 c = omega (arith, c .before .before .pre .0)
+
+cast-ramp-window-3 : tie.Need-cast-ramp-window-3 Inv-loop μ-loop
+cast-ramp-window-3 c = omega (arith, c .before .before .pre .0)
+
+cast-lowest : tie.Need-cast-lowest Inv-loop μ-loop
+cast-lowest c = let s = c .before .before .pre .0 in omega (arith, s .range, s .greatest)
+
+ramp-window-requires : tie.Need-ramp-window-requires Inv-loop μ-loop
+ramp-window-requires c κs = let s = c .before .before .pre .0 in (omega (arith, s), omega (arith, s))
+
+narrow-requires : tie.Need-narrow-requires Inv-loop μ-loop
+narrow-requires c κs = edge-small (c .before .before .before .pre .0)
 
 mul-ends : tie.Need-mul-ends Inv-loop μ-loop
 mul-ends c = omega arith
@@ -94,19 +112,19 @@ cast-next : tie.Need-cast-next Inv-loop μ-loop
 cast-next c = tt
 
 add-next : tie.Need-add-next Inv-loop μ-loop
-add-next c = omega (arith, at-most-one (eqb (c .before .before .before .args .u .mark) 0))
+add-next c = omega (arith, at-most-one (eqb (c .before .before .before .before .args .u .mark) 0))
 
 larger-requires : tie.Need-larger-requires Inv-loop μ-loop
 larger-requires c κs = tt
 
 interval-end-requires : tie.Need-interval-end-requires Inv-loop μ-loop
-interval-end-requires c κs = c .before .before .before .before .before .before .pre .0 .zoneCount
+interval-end-requires c κs = c .before .before .before .before .before .before .before .before .pre .0 .zoneCount
+
+cast-zones : tie.Need-cast-zones Inv-loop μ-loop
+cast-zones c = omega arith
 
 smaller-requires : tie.Need-smaller-requires Inv-loop μ-loop
 smaller-requires c κs = tt
-
-cast-ends : tie.Need-cast-ends Inv-loop μ-loop
-cast-ends c = omega (arith, interval c)
 
 mul-ends-5 : tie.Need-mul-ends-5 Inv-loop μ-loop
 mul-ends-5 c = omega (arith, interval c)
@@ -116,9 +134,6 @@ mul-ends-6 c = omega (arith, interval c)
 
 slice-write-ends-3 : tie.Need-slice-write-ends-3 Inv-loop μ-loop
 slice-write-ends-3 c = omega (arith, interval c)
-
-cast-ends-2 : tie.Need-cast-ends-2 Inv-loop μ-loop
-cast-ends-2 c = omega (arith, interval c)
 
 mul-ends-7 : tie.Need-mul-ends-7 Inv-loop μ-loop
 mul-ends-7 c = omega (arith, interval c)
@@ -136,7 +151,7 @@ cast-next-2 : tie.Need-cast-next-2 Inv-loop μ-loop
 cast-next-2 c = tt
 
 add-next-2 : tie.Need-add-next-2 Inv-loop μ-loop
-add-next-2 c = omega (arith, interval c, at-most-one (leb (c .before .before .before .larger .result) (c .smaller .result)))
+add-next-2 c = omega (arith, interval c, at-most-one (leb (c .before .before .before .before .larger .result) (c .smaller .result)))
 
 same-length : tie.Need-same-length Inv-loop μ-loop
 same-length c = simp length-set (simp length-set at (at (c .before) .loop .inv .size))
@@ -165,8 +180,13 @@ write-regions-spec =
     (tie.spec
     Inv-loop
     μ-loop
+    cast-lowest
+    cast-highest
+    cast-ramp-window
+    cast-ramp-window-2
+    cast-ramp-window-3
     ramp-window-requires
-    cast-zones
+    narrow-requires
     mul-ends
     mul-ends-2
     slice-write-ends
@@ -178,13 +198,12 @@ write-regions-spec =
     add-next
     loop-holds
     larger-requires
+    cast-zones
     interval-end-requires
     smaller-requires
-    cast-ends
     mul-ends-5
     mul-ends-6
     slice-write-ends-3
-    cast-ends-2
     mul-ends-7
     add-ends-2
     mul-ends-8
