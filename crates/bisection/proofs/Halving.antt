@@ -136,9 +136,9 @@ module _ {H : Problem → Type 0} {n : ℕ} {start : code.Found} where
                 subst (λ (x : Found (List ℕ)). HoldsFound q x (noted (allocated outputs s) f s)) (sym same ∙ whole q i b g) (noted-holds q i b g (selected (low + 2 ^ j) q) (allocated outputs s) o);
           }
 
-      -- (rule 11.10) the middle covers
-      pub covering : t < s .net → Halving H n start (noted (allocated outputs s) f s) low (width / 2)
-      covering e =
+      -- the loop goes on from low′ with half the width, the middle noted
+      turned : (a : code-allocation.Allocation) (low′ : ℕ) → low′ ≤ low + width / 2 → Sized n (sumsOf a) → ((q : Problem) (i : H q) (b : List ℕ) → HoldsFound q (record { best = b; evaluated = 65536 ∷ 0 ∷ [] }) start → Reached q b j low′ (low + 2 ^ j) (h .last ∷ h .before) (noted a f s)) → Halving H n start (noted a f s) low′ (width / 2)
+      turned a low′ within sized reached =
           record {
             k = j;
             last = low + 2 ^ j;
@@ -146,27 +146,25 @@ module _ {H : Problem → Type 0} {n : ℕ} {start : code.Found} where
             power = halfway;
             within = omega (arith, h .within);
             left = omega (arith, h .left, next);
-            sized = v .sized;
-            reached = λ q i b g.
-                let o = middle-taken q i in
-                let same = step4-covers (λ m. selected m q) (totalNet (unitsOf q)) (target q) j low (r q i b g .best) (h .last ∷ h .before) (omega (arith, o .net, demanded q i)) in
-                record { best = selected (low + 2 ^ j) q; holds = noted-holds q i b g (selected (low + 2 ^ j) q) (allocated outputs s) o; rest = sym same ∙ whole q i b g };
+            sized = sized;
+            reached = reached;
           }
+
+      -- (rule 11.10) the middle covers
+      pub covering : t < s .net → Halving H n start (noted (allocated outputs s) f s) low (width / 2)
+      covering e =
+          turned (allocated outputs s) low (omega arith) (v .sized)
+          (λ q i b g.
+          let o = middle-taken q i in
+          let same = step4-covers (λ m. selected m q) (totalNet (unitsOf q)) (target q) j low (r q i b g .best) (h .last ∷ h .before) (omega (arith, o .net, demanded q i)) in
+          record { best = selected (low + 2 ^ j) q; holds = noted-holds q i b g (selected (low + 2 ^ j) q) (allocated outputs s) o; rest = sym same ∙ whole q i b g })
 
       -- (rule 11.11) it does not
       pub uncovered : s .net < t → Halving H n start (noted (f .best) f s) (low + width / 2) (width / 2)
       uncovered e =
-          record {
-            k = j;
-            last = low + 2 ^ j;
-            before = h .last ∷ h .before;
-            power = halfway;
-            within = omega (arith, h .within);
-            left = omega (arith, h .left, next);
-            sized = h .sized;
-            reached = λ q i b g.
-                let o = middle-taken q i in
-                let same = step4-short (λ m. selected m q) (totalNet (unitsOf q)) (target q) j low (r q i b g .best) (h .last ∷ h .before) (omega (arith, o .net, demanded q i)) in
-                let moved : step q j (low + width / 2) (r q i b g .best) ((low + 2 ^ j) ∷ h .last ∷ h .before) ≡ halved q b = rw halfway (sym same ∙ whole q i b g) in
-                record { best = r q i b g .best; holds = noted-holds q i b g (r q i b g .best) (f .best) (r q i b g .holds .best); rest = moved };
-          }
+          turned (f .best) (low + width / 2) (omega arith) (h .sized)
+          (λ q i b g.
+          let o = middle-taken q i in
+          let same = step4-short (λ m. selected m q) (totalNet (unitsOf q)) (target q) j low (r q i b g .best) (h .last ∷ h .before) (omega (arith, o .net, demanded q i)) in
+          let moved : step q j (low + width / 2) (r q i b g .best) ((low + 2 ^ j) ∷ h .last ∷ h .before) ≡ halved q b = rw halfway (sym same ∙ whole q i b g) in
+          record { best = r q i b g .best; holds = noted-holds q i b g (r q i b g .best) (f .best) (r q i b g .holds .best); rest = moved })

@@ -1,7 +1,7 @@
 -- Laws of the view's definition, case by case: what a reply of the right form is, what the call answers, and what the answer to a request is.
 use mathlib.Core.Path.{_≡_, refl, sym, ap, _∙_}
 use mathlib.Core.Bool.{Bool, true, false, not}
-use mathlib.Core.List.{List, [], _∷_, _++_}
+use mathlib.Core.List.{List}
 use Prim.Native.Nat.{ℕ, _+_, _*_, _/_, _-_, _≤_, _<_}
 use native.Mathlib.Omega.{arith}
 use native.Mathlib.Decide.{decLt, ℕ-discrete}
@@ -17,7 +17,6 @@ use Rattle.rules.specs.declared.Verdict.{Verdict}
 use Rattle.rules.specs.declared.Refusal.{Refusal}
 use Rattle.rules.specs.declared.Refusal.the-variants.{BufferTooShort, ReplyMalformed, RequestLengthInvalid, AnswerTooShort}
 use Rattle.rules.proofs.Verdicts.{accepts}
-use Rattle.rules.proofs.Encoding.Front.{Front, lent, givenBack, front-none, front-set, front-tail, front-over}
 use Rattle.modbus.specs.declared.Viewed.{Viewed}
 use Rattle.modbus.specs.View.{Request, requestOf, units, values, exceptionTo, exceptionAnswer, normalAnswer, registerCount, malformed, answerOf, viewVerdict, viewEnds, ViewResult, viewed, numberOfViewed, lengthsOfViewed, panelViewed}
 use Rattle.modbus.specs.Written.{Written}
@@ -33,6 +32,9 @@ pub record WellFormed (reply : List ℕ) : Type 0 where
 
 pub well-formed : {reply : List ℕ} → malformed reply ≡ false → WellFormed reply
 well-formed e = let ((some, few), long) = simp accepts at e in record { some = some; few = few; long = long }
+
+pub well-formed-not-malformed : {reply : List ℕ} → WellFormed reply → malformed reply ≡ false
+well-formed-not-malformed {reply} w = rw (le-ltb (units reply) 1 (w .some), le-ltb 32 (units reply) (w .few), eq-eqb (length reply) (28 + 2 * units reply) (w .long))
 
 pub short-malformed : (reply : List ℕ) → length reply < 30 → malformed reply ≡ true
 short-malformed reply h = by (malformed reply) refl

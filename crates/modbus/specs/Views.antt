@@ -1,4 +1,4 @@
--- Rule 18.12 of docs/SPECIFICATION.md, and what tells wrong views apart: calls on the replies of U5 and of a site with two units (`Cases`), byte by byte. Above each row stands the wrong rule that it shows.
+-- Rule 18.12 of docs/SPECIFICATION.md, and what tells wrong views apart: calls on the replies of U5 and of a site with two units (`CaseFiles`), byte by byte. Above each row stands the wrong rule that it shows.
 use Prim.Native.Nat.{ℕ, _+_, _*_}
 use mathlib.Core.List.{List, [], _∷_, _++_, map}
 use mathlib.Core.Path.{_≡_, refl}
@@ -6,7 +6,7 @@ use lib.IntN.{ℤ, pos}
 use lib.ListN.{length, replicate, take, drop}
 use Rattle.fields.specs.Field.{numberAfter}
 use Rattle.rules.specs.Refusal.{numberOf}
-use Rattle.rules.specs.Cases.{u5Reply, siteReply, put}
+use Rattle.rules.specs.CaseFiles.{u5Reply, siteReply, put}
 use Rattle.modbus.specs.declared.Viewed.{Viewed}
 use Rattle.modbus.specs.View.{exceptionTo, answerOf, viewVerdict, viewEnds, viewed, panelViewed}
 

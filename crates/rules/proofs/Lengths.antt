@@ -1,16 +1,13 @@
 -- (rule 14.2) Lengths are 30 or more and numbers are less: a C caller can tell the two apart. And no length is above 92, or 1,480 of a file.
-use mathlib.Core.Path.{_≡_, refl}
+use mathlib.Core.Path.{_≡_}
 use mathlib.Core.List.{List, [], _∷_}
 use Prim.Native.Nat.{ℕ, _*_, _≤_, _<_}
 use native.Mathlib.Omega.{arith}
-use lib.Dec.{ltb}
 use lib.ListN.{length}
 use Rattle.rules.specs.Unit.{Unit}
-use Rattle.rules.specs.Layout.{count, unitAt, caseOf, bodiesLength, unitsOfRows}
-use Rattle.rules.specs.Refusal.{numberOf, _refuses_}
-use Rattle.rules.specs.Problem.{problemOf}
-use Rattle.rules.specs.Bisection.{solve}
-use Rattle.rules.specs.Calls.{caseVerdict, dispatchVerdict, dispatchEnds, dispatched, packVerdict, packed, replyBytes}
+use Rattle.rules.specs.Layout.{bodiesLength, unitsOfRows}
+use Rattle.rules.specs.Refusal.{numberOf}
+use Rattle.rules.specs.Calls.{dispatched, packVerdict, packed}
 use Rattle.rules.specs.declared.Refusal.{Refusal}
 use Rattle.rules.specs.declared.Refusal.the-variants.{
   BufferTooShort,
@@ -31,18 +28,13 @@ use Rattle.rules.specs.declared.Refusal.the-variants.{
   RequestLengthInvalid,
   AnswerTooShort,
 }
-use Rattle.rules.specs.declared.Verdict.{Verdict}
-use Rattle.rules.specs.declared.Verdict.the-variants.{Accepted, Refused}
 use Rattle.rules.specs.declared.Dispatched.{Dispatched}
 use Rattle.rules.specs.declared.Packed.{Packed}
-use Rattle.rules.proofs.Lists.{Every, length-each}
-use Rattle.rules.proofs.Verdicts.{then-accepted}
+use Rattle.rules.proofs.Lists.{Every}
 use Rattle.rules.proofs.Encoding.Body.{Packable}
-use Rattle.rules.proofs.Encoding.SoundFile.{sound-file, units-sound}
 use Rattle.rules.proofs.Encoding.RoundTrip.{length-file}
 use Rattle.rules.proofs.Encoding.Undo.{sound-rows, pack-wrote}
-use Rattle.rules.proofs.Encoding.ReplyBytes.{length-reply}
-use Rattle.rules.proofs.Demand3.{reply-count, case-accepted}
+use Rattle.rules.proofs.Replied.{counted, replied}
 
 pub number-below-30 : (r : Refusal) → numberOf r < 30
 number-below-30 BufferTooShort = omega arith
@@ -65,25 +57,11 @@ number-below-30 AnswerTooShort = omega arith
 
 -- ---- lengths
 
-replied-when : (v : Verdict) (file reply : List ℕ) (n : ℕ) → dispatchEnds v file reply .answer ≡ Dispatched.Replied n → (v ≡ Accepted) × (length (replyBytes (solve (problemOf (caseOf file)))) ≡ n)
-unfolding dispatchEnds
-replied-when Accepted file reply n e = (refl, cc)
-replied-when (Refused r) file reply n e = absurd (let z : _≡_ {A = ℕ} 0 1 = cc in omega arith)
-
-units-count : (file : List ℕ) → length (caseOf file .units) ≡ count file
-unfolding caseOf
-units-count file = length-each (count file) (unitAt file)
-
 pub replied-length : (file reply : List ℕ) (n : ℕ) → dispatched file reply .answer ≡ Dispatched.Replied n → (30 ≤ n) × (n ≤ 92)
-unfolding dispatched dispatchVerdict
 replied-length file reply n e =
-    let (accepted, long) = replied-when (dispatchVerdict file reply) file reply n e in
-    let (room, case) = then-accepted (ltb (length reply) 92 refuses BufferTooShort) (caseVerdict file) .0 accepted in
-    let (verdict, solves) = case-accepted file case in
-    let s = sound-file file .0 verdict .head in
-    let c = caseOf file in
-    let number = reply-count c (units-sound file verdict) (omega (arith, units-count file, s .count-greatest)) solves in
-    omega (arith, long, length-reply (solve (problemOf c)), number, units-count file, s .count-least, s .count-greatest)
+    let r = replied file reply n e in
+    let c = counted file (r .accepted) in
+    omega (arith, r .long, c .long, c .some, c .few)
 
 bodies-length : (us : List Unit) → Every Packable us → (26 * length us ≤ bodiesLength us) × (bodiesLength us ≤ 42 * length us)
 bodies-length [] p = omega arith

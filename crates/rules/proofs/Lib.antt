@@ -7,4 +7,5 @@ pub mod Encoding
 pub mod Economics
 pub mod Obeyed
 pub mod Demand3
+pub mod Replied
 pub mod Lengths

@@ -10,5 +10,6 @@ pub mod Calls
 pub mod Undoing
 pub mod Promise
 pub mod Cases
+pub mod CaseFiles
 pub mod Table
 pub mod TableOfRefusals

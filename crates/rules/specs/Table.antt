@@ -8,7 +8,8 @@ use lib.IntN.{pos, negℤ}
 use lib.ListN.{replicate, drop}
 use Rattle.rules.specs.Lists.{each, over}
 use Rattle.rules.specs.Layout.{fileOf, unitOfRow}
-use Rattle.rules.specs.Cases.{Row, answer, buffer, reply, u5, u5Reply, site, siteReply, u10Reply, rowOfU, rowsOfSite, put, shortHead, otherEdition, noUnit, demandAbove, byteTooMany, noZone, linearCostAbove, edgeAtLeast, otherMark, largestLosses, rowsBuffer, answers, unit, U, lossy, priced-at, marked, zoned, costing, dispatch, price, pack, check, dispatchInto, packInto, unpackInto, panelDispatch, panelPrice, panelPack, panelUnpack, allocate, searchFor, solveOffers, writes, refuses, values, checks, reads, returns, allocates, finds, solves}
+use Rattle.rules.specs.Cases.{Row, answer, buffer, reply, dispatch, price, pack, check, dispatchInto, packInto, unpackInto, panelDispatch, panelPrice, panelPack, panelUnpack, allocate, searchFor, solveOffers, writes, refuses, values, checks, reads, returns, allocates, finds, solves}
+use Rattle.rules.specs.CaseFiles.{u5, u5Reply, site, siteReply, u10Reply, rowOfU, rowsOfSite, put, shortHead, otherEdition, noUnit, demandAbove, byteTooMany, noZone, linearCostAbove, edgeAtLeast, otherMark, largestLosses, rowsBuffer, answers, unit, U, lossy, priced-at, marked, zoned, costing}
 
 unfoldable pub table : List Row
 table =

@@ -3,7 +3,8 @@ use mathlib.Core.List.{List, [], _∷_, _++_, map}
 use mathlib.Core.Path.{_≡_, refl}
 use lib.ListN.{replicate, take}
 use Rattle.rules.specs.Layout.{fileOf}
-use Rattle.rules.specs.Cases.{Row, answer, buffer, u5, site, rowOfU, rowsOfSite, atLimits, put, copies, shortHead, otherEdition, noUnit, demandAbove, byteTooMany, noZone, linearCostAbove, edgeAtLeast, otherMark, rowsBuffer, U, zoned, sharedEdge, dispatch, price, pack, check, dispatchInto, packInto, unpackInto, writes, refuses, checks}
+use Rattle.rules.specs.Cases.{Row, answer, buffer, dispatch, price, pack, check, dispatchInto, packInto, unpackInto, writes, refuses, checks}
+use Rattle.rules.specs.CaseFiles.{u5, site, rowOfU, rowsOfSite, atLimits, put, copies, shortHead, otherEdition, noUnit, demandAbove, byteTooMany, noZone, linearCostAbove, edgeAtLeast, otherMark, rowsBuffer, U, zoned, sharedEdge}
 
 unfoldable pub limits : List Row
 limits =

@@ -8,7 +8,8 @@ use lib.ListN.{length, take, drop, replicate}
 use Rattle.fields.specs.Field.{field}
 use Rattle.rules.specs.Refusal.{numberOf}
 use Rattle.rules.specs.Calls.{dispatched}
-use Rattle.rules.specs.Cases.{answer, u5}
+use Rattle.rules.specs.Cases.{answer}
+use Rattle.rules.specs.CaseFiles.{u5}
 use Rattle.rules.specs.declared.Refusal.{Refusal}
 use Rattle.rules.specs.declared.Dispatched.{Dispatched}
 
