@@ -92,13 +92,37 @@ static void damage_range(uint64_t *state, struct case_file *c, uint32_t units)
         set_u16(c, body + 2 * field, ends[field] + past);
 }
 
+/* b1 at an end of its range or one past it, or together with b at the end of theirs or one past it. */
+static void damage_losses(uint64_t *state, struct case_file *c, uint32_t units)
+{
+    size_t body = get_u16(c, 8 + 4 * random_between(state, 0, units - 1));
+    uint32_t past = random_between(state, 0, 1);
+    uint32_t b = random_between(state, 4501, 5000);
+    switch (random_between(state, 0, 2)) {
+    case 0:
+        set_u32(c, body + 26, 10000000 + past);
+        break;
+    case 1:
+        set_u32(c, body + 26, 0 - (10000000 + past));
+        break;
+    default:
+        set_u16(c, body + 10, b);
+        set_u32(c, body + 26, 99999999 - 19999 * b + past);
+    }
+}
+
+static size_t edges_at(const struct case_file *c)
+{
+    return get_u16(c, 0) == 2 ? 30 : 26;
+}
+
 /* Two edges or limits the wrong way round. */
 static void damage_order(uint64_t *state, struct case_file *c, uint32_t units)
 {
     uint32_t i = random_between(state, 0, units - 1);
-    size_t body = get_u16(c, 8 + 4 * i);
-    uint32_t edges = (get_u16(c, 10 + 4 * i) - 26) / 2;
-    size_t at = edges < 2 ? body + 12 : body + 26 + 2 * random_between(state, 0, edges - 2);
+    size_t body = get_u16(c, 8 + 4 * i), first_edge = edges_at(c);
+    uint32_t edges = (uint32_t)(get_u16(c, 10 + 4 * i) - first_edge) / 2;
+    size_t at = edges < 2 ? body + 12 : body + first_edge + 2 * random_between(state, 0, edges - 2);
     uint32_t first = get_u16(c, at);
     set_u16(c, at, get_u16(c, at + 2));
     set_u16(c, at + 2, first);
@@ -127,9 +151,10 @@ static void damage_length(uint64_t *state, struct case_file *c)
         c->length = random_between(state, 0, (uint32_t)c->length - 1);
 }
 
+/* A fault of any kind; edition 2 has one kind more. */
 static void damage(uint64_t *state, struct case_file *c, uint32_t units)
 {
-    switch (random_between(state, 0, 5)) {
+    switch (random_between(state, 0, get_u16(c, 0) == 2 ? 6 : 5)) {
     case 0:
         damage_front(state, c, units);
         break;
@@ -144,6 +169,9 @@ static void damage(uint64_t *state, struct case_file *c, uint32_t units)
         break;
     case 4:
         damage_range(state, c, units);
+        break;
+    case 6:
+        damage_losses(state, c, units);
         break;
     default:
         damage_body(state, c, units);
@@ -160,13 +188,15 @@ static void compare_damaged(uint64_t *state, const struct case_file *c, uint32_t
     compare(c->bytes, c->length, random_between(state, 0, SHAHFUREEL_REPLY_BYTES - 1), t);
 }
 
-void compare_small(struct tally *small)
+void compare_small(struct tally *first, struct tally *second)
 {
-    uint64_t state = 20240602;
-    static struct case_file c;
+    uint64_t state = 20240602, state_of_second = 20240603;
+    static struct case_file c, twin;
     for (int i = 0; i < SMALL_CASES; i++) {
         make_small_case(&state, &c);
-        compare(c.bytes, c.length, SHAHFUREEL_REPLY_BYTES, small);
+        compare(c.bytes, c.length, SHAHFUREEL_REPLY_BYTES, first);
+        to_edition_2(&state_of_second, &c, &twin);
+        compare(twin.bytes, twin.length, SHAHFUREEL_REPLY_BYTES, second);
     }
 }
 
@@ -176,6 +206,17 @@ void compare_group(const struct group *g, struct tally *whole, struct tally *dam
     for (uint32_t i = 0; i < CASES_IN_GROUP; i++) {
         compare(g->cases[i].bytes, g->cases[i].length, SHAHFUREEL_REPLY_BYTES, whole);
         compare_damaged(&state, &g->cases[i], g->units, damaged);
+    }
+}
+
+void compare_in_edition_2(const struct group *g, struct tally *whole, struct tally *damaged)
+{
+    uint64_t state = 2 + 64 * g->units + g->zones;
+    static struct case_file twin;
+    for (uint32_t i = 0; i < CASES_IN_GROUP; i++) {
+        to_edition_2(&state, &g->cases[i], &twin);
+        compare(twin.bytes, twin.length, SHAHFUREEL_REPLY_BYTES, whole);
+        compare_damaged(&state, &twin, g->units, damaged);
     }
 }
 

@@ -11,11 +11,14 @@ struct tally {
     uint64_t replies, answers[ANSWERS], evaluations[19];
 };
 
-/* Dispatches small cases by both programs. Ends the process where they differ. */
-void compare_small(struct tally *small);
+/* Dispatches small cases by both programs, in edition 1 and in edition 2. Ends the process where they differ. */
+void compare_small(struct tally *first, struct tally *second);
 
 /* Dispatches every case of the group by both programs, and damaged copies of it. Ends the process where they differ. */
 void compare_group(const struct group *g, struct tally *whole, struct tally *damaged);
+
+/* The same of the cases of an edition 1 group, each turned into edition 2. */
+void compare_in_edition_2(const struct group *g, struct tally *whole, struct tally *damaged);
 
 /* Ends the process unless both programs refuse every case of the group with 11. */
 void compare_refused(const struct group *g);

@@ -10,7 +10,8 @@
 #include <stdlib.h>
 #include <time.h>
 
-enum { SIZES = 6, ZONINGS = 2, GROUPS = SIZES * ZONINGS, REPETITIONS_DEFAULT = 15, REPETITIONS_MAX = 1000 };
+enum { SIZES = 6, ZONINGS = 2, OF_EDITION_1 = SIZES * ZONINGS, GROUPS = OF_EDITION_1 + ZONINGS };
+enum { REPETITIONS_DEFAULT = 15, REPETITIONS_MAX = 1000 };
 enum { UNITS_TIMED = 60000 }; /* units dispatched by each program in one repetition, about */
 
 static const uint32_t sizes[SIZES] = {1, 2, 4, 8, 16, 32};
@@ -23,6 +24,7 @@ struct times {
     double controller[REPETITIONS_MAX], plain[REPETITIONS_MAX], ratio[REPETITIONS_MAX];
 };
 
+/* Edition 1 in all sizes without zones, then with zones; then edition 2 in the largest size. */
 static struct group groups[GROUPS], refused[GROUPS];
 static struct times whole_times[GROUPS], refused_times[GROUPS];
 
@@ -162,13 +164,19 @@ static void print_line(const char *name, uint32_t zones, struct line l)
            100 * l.deviation);
 }
 
+/* Prints the figures of a group, and returns them. */
+static struct summary print_timed(int group, int repetitions)
+{
+    struct summary whole = summarise(&whole_times[group], repetitions);
+    print_group(&groups[group], whole, summarise(&refused_times[group], repetitions));
+    return whole;
+}
+
 static void print_zoning(int zoning, int repetitions)
 {
     double n[SIZES], controller[SIZES], plain[SIZES];
     for (int i = 0; i < SIZES; i++) {
-        int group = zoning * SIZES + i;
-        struct summary whole = summarise(&whole_times[group], repetitions);
-        print_group(&groups[group], whole, summarise(&refused_times[group], repetitions));
+        struct summary whole = print_timed(zoning * SIZES + i, repetitions);
         n[i] = sizes[i];
         controller[i] = whole.controller;
         plain[i] = whole.plain;
@@ -185,26 +193,50 @@ static void print_times(int repetitions)
     printf("zones units controller  plain C   ratio   greatest  controller plain C controller plain C\n");
     for (int zoning = 0; zoning < ZONINGS; zoning++)
         print_zoning(zoning, repetitions);
+    printf("edition 2:\n");
+    for (int group = OF_EDITION_1; group < GROUPS; group++)
+        print_timed(group, repetitions);
 }
 
 /* ---- main */
 
+static void make_group_of_index(int i)
+{
+    uint64_t seed = UINT64_C(20240601) + (uint64_t)i;
+    if (i < OF_EDITION_1)
+        make_group(&groups[i], sizes[i % SIZES], zonings[i / SIZES], 1, seed);
+    else
+        make_group(&groups[i], sizes[SIZES - 1], zonings[i - OF_EDITION_1], 2, seed);
+    refuse_group(&refused[i], &groups[i]);
+}
+
 static void make_groups(void)
 {
-    struct tally whole = {0}, damaged = {0}, small = {0};
     uint32_t tried = 0;
     for (int i = 0; i < GROUPS; i++) {
-        make_group(&groups[i], sizes[i % SIZES], zonings[i / SIZES], UINT64_C(20240601) + (uint64_t)i);
-        compare_group(&groups[i], &whole, &damaged);
-        refuse_group(&refused[i], &groups[i]);
+        make_group_of_index(i);
         compare_refused(&refused[i]);
         tried += groups[i].tried;
     }
-    compare_small(&small);
     printf("%d groups of %d cases, those with 18 evaluations of %u made\n", GROUPS, CASES_IN_GROUP, (unsigned)tried);
-    print_answers("cases", &whole);
-    print_answers("damaged cases and short replies", &damaged);
-    print_answers("small cases", &small);
+}
+
+static void compare_groups(void)
+{
+    struct tally whole[2] = {{0}}, damaged[2] = {{0}}, small[2] = {{0}};
+    for (int i = 0; i < GROUPS; i++) {
+        uint32_t edition = groups[i].edition;
+        compare_group(&groups[i], &whole[edition - 1], &damaged[edition - 1]);
+        if (edition == 1)
+            compare_in_edition_2(&groups[i], &whole[1], &damaged[1]);
+    }
+    compare_small(&small[0], &small[1]);
+    print_answers("cases", &whole[0]);
+    print_answers("damaged cases and short replies", &damaged[0]);
+    print_answers("small cases", &small[0]);
+    print_answers("cases of edition 2", &whole[1]);
+    print_answers("damaged cases of edition 2 and short replies", &damaged[1]);
+    print_answers("small cases of edition 2", &small[1]);
     printf("\n");
 }
 
@@ -228,6 +260,7 @@ int main(int argc, char **argv)
 {
     int repetitions = repetitions_of(argc, argv);
     make_groups();
+    compare_groups();
     for (int repetition = 0; repetition < repetitions; repetition++)
         for (int i = 0; i < GROUPS; i++)
             repeat_group(repetition, i);

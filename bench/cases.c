@@ -5,8 +5,10 @@
 
 #include <stdio.h>
 #include <stdlib.h>
+#include <string.h>
 
 enum { EVALUATIONS_MAX = 18 };
+enum { B_AT = 10, B1_AT = 26, B1_BYTES = 4, B1_MAX = 10000000 };
 
 uint32_t random_between(uint64_t *state, uint32_t least, uint32_t greatest)
 {
@@ -77,12 +79,51 @@ static void pack_case(struct case_file *c, uint32_t demand, const uint32_t *rows
     }
 }
 
-static void make_case(uint64_t *state, struct case_file *c, uint32_t units, uint32_t zones)
+static uint32_t get_u16(const uint8_t *at)
 {
-    uint32_t rows[SHAHFUREEL_ROWS_NUMBERS];
-    for (uint32_t i = 0; i < units; i++)
-        make_row(state, rows + SHAHFUREEL_ROW_NUMBERS * i, zones);
-    pack_case(c, make_demand(state, rows, units), rows, units);
+    return (uint32_t)at[0] << 8 | at[1];
+}
+
+static void put(uint8_t *at, uint32_t number, int bytes)
+{
+    for (int i = bytes - 1; i >= 0; i--, number >>= 8)
+        at[i] = (uint8_t)number;
+}
+
+/* A b1 beside a b: the least or the greatest that is accepted, none, or any. */
+static int32_t make_b1(uint64_t *state, uint32_t b)
+{
+    int32_t most = 99999999 - 19999 * (int32_t)b;
+    most = most < B1_MAX ? most : B1_MAX;
+    switch (random_between(state, 0, 5)) {
+    case 0:
+        return -B1_MAX;
+    case 1:
+        return most;
+    case 2:
+        return 0;
+    default:
+        return (int32_t)random_between(state, 0, (uint32_t)(most + B1_MAX)) - B1_MAX;
+    }
+}
+
+/* b1 stands behind byte 25 of each body; so body i, from 0, starts 4 * i bytes later. */
+void to_edition_2(uint64_t *state, const struct case_file *from, struct case_file *to)
+{
+    uint32_t units = get_u16(from->bytes + 2);
+    memcpy(to->bytes, from->bytes, 8 + 4 * (size_t)units);
+    put(to->bytes, 2, 2);
+    for (uint32_t i = 0; i < units; i++) {
+        uint32_t offset = get_u16(from->bytes + 8 + 4 * i), length = get_u16(from->bytes + 10 + 4 * i);
+        const uint8_t *body = from->bytes + offset;
+        uint8_t *twin = to->bytes + offset + B1_BYTES * i;
+        put(to->bytes + 8 + 4 * i, offset + B1_BYTES * i, 2);
+        put(to->bytes + 10 + 4 * i, length + B1_BYTES, 2);
+        memcpy(twin, body, B1_AT);
+        put(twin + B1_AT, (uint32_t)make_b1(state, get_u16(body + B_AT)), B1_BYTES);
+        memcpy(twin + B1_AT + B1_BYTES, body + B1_AT, length - B1_AT);
+    }
+    to->length = from->length + B1_BYTES * units;
 }
 
 /* Whether dispatch answers the case after the most evaluations. */
@@ -93,14 +134,27 @@ static uint32_t is_full(const struct case_file *c)
     return length >= SHAHFUREEL_LENGTH_MIN && reply[2] == 0 && reply[3] == EVALUATIONS_MAX;
 }
 
-void make_group(struct group *g, uint32_t units, uint32_t zones, uint64_t seed)
+static void make_case(uint64_t *state, struct case_file *c, const struct group *g)
+{
+    uint32_t rows[SHAHFUREEL_ROWS_NUMBERS];
+    for (uint32_t i = 0; i < g->units; i++)
+        make_row(state, rows + SHAHFUREEL_ROW_NUMBERS * i, g->zones);
+    pack_case(c, make_demand(state, rows, g->units), rows, g->units);
+    if (g->edition == 2) {
+        struct case_file first = *c;
+        to_edition_2(state, &first, c);
+    }
+}
+
+void make_group(struct group *g, uint32_t units, uint32_t zones, uint32_t edition, uint64_t seed)
 {
     uint64_t state = seed;
     g->units = units;
     g->zones = zones;
+    g->edition = edition;
     g->tried = 0;
     for (uint32_t kept = 0; kept < CASES_IN_GROUP; g->tried++) {
-        make_case(&state, &g->cases[kept], units, zones);
+        make_case(&state, &g->cases[kept], g);
         kept += is_full(&g->cases[kept]);
     }
 }
@@ -140,7 +194,7 @@ void make_small_case(uint64_t *state, struct case_file *c)
     pack_case(c, random_between(state, 0, sum), rows, units);
 }
 
-/* The greatest demand of all is 320,000 steps; 32 of these sets give at most 70,400. */
+/* The greatest demand of all is 320,000 steps; 32 of these sets give at most 70,400, and net at most 77,440 with the least b1. */
 static void demand_greatest(struct case_file *c)
 {
     c->bytes[4] = 0;

@@ -14,17 +14,20 @@ struct case_file {
     uint8_t bytes[SHAHFUREEL_FILE_BYTES_MAX];
 };
 
-/* Cases alike in size: each unit has as many zones. Tried are the cases made, kept or not. */
+/* Cases alike in size and edition: each unit has as many zones. Tried are the cases made, kept or not. */
 struct group {
-    uint32_t units, zones, tried;
+    uint32_t units, zones, edition, tried;
     struct case_file cases[CASES_IN_GROUP];
 };
 
 /* The next number of a pseudorandom sequence, from least to greatest. */
 uint32_t random_between(uint64_t *state, uint32_t least, uint32_t greatest);
 
+/* The same case in edition 2, with a b1 for each unit that its b leaves room for. */
+void to_edition_2(uint64_t *state, const struct case_file *from, struct case_file *to);
+
 /* Fills a group with cases that dispatch answers after 18 evaluations, the most there are. */
-void make_group(struct group *g, uint32_t units, uint32_t zones, uint64_t seed);
+void make_group(struct group *g, uint32_t units, uint32_t zones, uint32_t edition, uint64_t seed);
 
 /* Makes a small case of round numbers, in which choices tie and nets are equal. Dispatch may answer it or refuse it with 11. */
 void make_small_case(uint64_t *state, struct case_file *c);

@@ -4,7 +4,8 @@
 #include "plain.h"
 
 enum { UNITS_MAX = 32, ZONES_MAX = 4, REGIONS_MAX = 6 };
-enum { HEAD_BYTES = 8, ENTRY_BYTES = 4, BODY_BYTES_MIN = 26, ZONE_BYTES = 4 };
+enum { HEAD_BYTES = 8, ENTRY_BYTES = 4, ZONE_BYTES = 4 };
+enum { B1_AT = 26, B1_BYTES = 4, B1_MAX = 10000000 };
 enum { REPLY_BYTES_MIN = 92, OUTPUTS_AT = 28 };
 enum { DEMAND_MAX = 320000, OUTPUT_MAX = 10000, MULTIPLIER_MAX = 65536 };
 
@@ -23,11 +24,13 @@ enum refusal {
     COEFFICIENT_OUT_OF_RANGE = 8,
     LIMITS_INVALID = 9,
     RAMP_OR_MARK_OUT_OF_RANGE = 10,
-    NO_ALLOCATION = 11
+    NO_ALLOCATION = 11,
+    LOSSES_OUT_OF_RANGE = 18
 };
 
 struct unit {
     uint32_t c0, c1, c2, b;
+    int32_t b1;
     int32_t least, greatest, previous, up, down;
     uint32_t mark, zone_count;
     int32_t edges[2 * ZONES_MAX];
@@ -37,9 +40,9 @@ struct region {
     int32_t low, high;
 };
 
-/* A unit's coefficients, and its permitted outputs as regions that ascend. */
+/* A unit's coefficients, and its permitted outputs as regions that ascend. Its net is (step_net - b * p) * p. */
 struct offer {
-    int64_t c0, c1, c2, b;
+    int64_t c0, c1, c2, b, step_net;
     int32_t region_count;
     struct region regions[REGIONS_MAX];
 };
@@ -73,6 +76,12 @@ static uint32_t read_u32(const uint8_t *at)
     return (uint32_t)at[0] << 24 | (uint32_t)at[1] << 16 | (uint32_t)at[2] << 8 | at[3];
 }
 
+/* Two's complement. */
+static int32_t read_i32(const uint8_t *at)
+{
+    return (int32_t)((int64_t)(read_u32(at) ^ 0x80000000u) - INT64_C(0x80000000));
+}
+
 static void write_u16(uint8_t *at, uint32_t n)
 {
     at[0] = (uint8_t)(n >> 8);
@@ -91,7 +100,8 @@ static enum refusal check_head(const uint8_t *file, size_t length)
 {
     if (length < HEAD_BYTES)
         return FILE_TOO_SHORT;
-    if (read_u16(file) != 1)
+    uint32_t edition = read_u16(file);
+    if (edition != 1 && edition != 2)
         return EDITION_UNKNOWN;
     uint32_t count = read_u16(file + 2);
     if (count < 1 || count > UNITS_MAX)
@@ -101,32 +111,40 @@ static enum refusal check_head(const uint8_t *file, size_t length)
     return ACCEPTED;
 }
 
-static int legal_size(uint32_t size)
+/* Where the edges of a body stand: in edition 2 behind b1. */
+static uint32_t edges_at(const uint8_t *file)
 {
-    return size == 26 || size == 30 || size == 34 || size == 38 || size == 42;
+    return read_u16(file) == 2 ? B1_AT + B1_BYTES : B1_AT;
+}
+
+static int legal_size(uint32_t size, uint32_t edges)
+{
+    return size >= edges && size <= edges + ZONE_BYTES * ZONES_MAX && (size - edges) % ZONE_BYTES == 0;
 }
 
 static enum refusal check_contents(const uint8_t *file, size_t length, uint32_t count)
 {
+    uint32_t edges = edges_at(file);
     size_t start = HEAD_BYTES + ENTRY_BYTES * count;
     if (length < start)
         return CONTENTS_INVALID;
     for (uint32_t i = 0; i < count; i++) {
         const uint8_t *entry = file + HEAD_BYTES + ENTRY_BYTES * i;
         uint32_t size = read_u16(entry + 2);
-        if (read_u16(entry) != start || !legal_size(size))
+        if (read_u16(entry) != start || !legal_size(size, edges))
             return CONTENTS_INVALID;
         start += size;
     }
     return start == length ? ACCEPTED : CONTENTS_INVALID;
 }
 
-static void read_unit(const uint8_t *body, struct unit *u)
+static void read_unit(const uint8_t *body, uint32_t edges, struct unit *u)
 {
     u->c0 = read_u32(body);
     u->c1 = read_u32(body + 4);
     u->c2 = read_u16(body + 8);
     u->b = read_u16(body + 10);
+    u->b1 = edges == B1_AT ? 0 : read_i32(body + B1_AT);
     u->least = (int32_t)read_u16(body + 12);
     u->greatest = (int32_t)read_u16(body + 14);
     u->previous = (int32_t)read_u16(body + 16);
@@ -135,7 +153,7 @@ static void read_unit(const uint8_t *body, struct unit *u)
     u->mark = read_u16(body + 22);
     u->zone_count = read_u16(body + 24);
     for (uint32_t k = 0; k < 2 * u->zone_count; k++)
-        u->edges[k] = (int32_t)read_u16(body + BODY_BYTES_MIN + 2 * k);
+        u->edges[k] = (int32_t)read_u16(body + edges + 2 * k);
 }
 
 static int zones_ascend(const struct unit *u)
@@ -153,6 +171,8 @@ static enum refusal check_unit(const struct unit *u)
 {
     if (u->c0 > 1000000000 || u->c1 > 10000000 || u->c2 > 1000 || u->b > 5000)
         return COEFFICIENT_OUT_OF_RANGE;
+    if (u->b1 < -B1_MAX || u->b1 > B1_MAX || u->b1 + 19999 * (int64_t)u->b >= NET_OF_STEP)
+        return LOSSES_OUT_OF_RANGE;
     if (u->least < 1 || u->greatest <= u->least || u->greatest > OUTPUT_MAX || !zones_ascend(u))
         return LIMITS_INVALID;
     if (u->previous > OUTPUT_MAX || u->up > OUTPUT_MAX || u->down > OUTPUT_MAX || u->mark > 1)
@@ -160,12 +180,12 @@ static enum refusal check_unit(const struct unit *u)
     return ACCEPTED;
 }
 
-static enum refusal read_body(const uint8_t *body, uint32_t size, struct unit *u)
+static enum refusal read_body(const uint8_t *body, uint32_t size, uint32_t edges, struct unit *u)
 {
     uint32_t zone_count = read_u16(body + 24);
-    if (zone_count > ZONES_MAX || size != BODY_BYTES_MIN + ZONE_BYTES * zone_count)
+    if (zone_count > ZONES_MAX || size != edges + ZONE_BYTES * zone_count)
         return ZONE_COUNT_INVALID;
-    read_unit(body, u);
+    read_unit(body, edges, u);
     return check_unit(u);
 }
 
@@ -211,15 +231,17 @@ static void make_offer(const struct unit *u, struct offer *o)
     o->c1 = u->c1;
     o->c2 = u->c2;
     o->b = u->b;
+    o->step_net = NET_OF_STEP - u->b1;
     find_regions(u, o);
 }
 
 static enum refusal read_units(const uint8_t *file, struct problem *q)
 {
+    uint32_t edges = edges_at(file);
     for (uint32_t i = 0; i < q->count; i++) {
         const uint8_t *entry = file + HEAD_BYTES + ENTRY_BYTES * i;
         struct unit u;
-        enum refusal r = read_body(file + read_u16(entry), read_u16(entry + 2), &u);
+        enum refusal r = read_body(file + read_u16(entry), read_u16(entry + 2), edges, &u);
         if (r != ACCEPTED)
             return r;
         make_offer(&u, &q->offers[i]);
@@ -250,7 +272,7 @@ static int64_t cost_of(const struct offer *o, int64_t p)
 
 static int64_t net_of(const struct offer *o, int64_t p)
 {
-    return (NET_OF_STEP - o->b * p) * p;
+    return (o->step_net - o->b * p) * p;
 }
 
 /* The output, the greater of two on a tie, where square * p * p + linear * p is least on 0 to 10,000. */
@@ -274,7 +296,7 @@ static int64_t clamp(int64_t p, int64_t low, int64_t high)
 static int64_t choose(const struct offer *o, int64_t m)
 {
     int64_t square = PRICED_OF_COST * o->c2 + m * o->b;
-    int64_t linear = PRICED_OF_COST * o->c1 - m * NET_OF_STEP;
+    int64_t linear = PRICED_OF_COST * o->c1 - m * o->step_net;
     int64_t v = vertex(square, linear);
     int64_t best = clamp(v, o->regions[0].low, o->regions[0].high);
     int64_t least = best == 0 ? -PRICED_OF_COST * o->c0 : (square * best + linear) * best;

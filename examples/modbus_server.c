@@ -61,7 +61,7 @@ struct client {
 /* What each refusal of shahfureel_dispatch means; 1 does not come, as the reply has its room. */
 static const char *const REFUSALS[] = {
     [SHAHFUREEL_FILE_TOO_SHORT] = "it has less than 8 bytes",
-    [SHAHFUREEL_EDITION_UNKNOWN] = "its edition is not 1",
+    [SHAHFUREEL_EDITION_UNKNOWN] = "its edition is neither 1 nor 2",
     [SHAHFUREEL_COUNT_OUT_OF_RANGE] = "its number of units is not from 1 to 32",
     [SHAHFUREEL_DEMAND_OUT_OF_RANGE] = "its demand is above 320,000 steps",
     [SHAHFUREEL_CONTENTS_INVALID] = "its contents, an entry or its end are not where they must be",
@@ -70,6 +70,7 @@ static const char *const REFUSALS[] = {
     [SHAHFUREEL_LIMITS_INVALID] = "least, greatest or edges of a unit are out of range or order",
     [SHAHFUREEL_RAMP_OR_MARK_OUT_OF_RANGE] = "previous, up, down or mark of a unit is out of range",
     [SHAHFUREEL_NO_ALLOCATION] = "no permitted outputs cover the demand after losses",
+    [SHAHFUREEL_LOSSES_OUT_OF_RANGE] = "b1 of a unit is out of range, alone or together with its b",
 };
 
 /* A complaint; returns 0. */

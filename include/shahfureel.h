@@ -72,7 +72,7 @@ extern "C" {
 /* ---- sizes */
 
 #define SHAHFUREEL_UNITS_MAX 32u             /* units in a case file */
-#define SHAHFUREEL_FILE_BYTES_MAX 1480u      /* no case file is longer */
+#define SHAHFUREEL_FILE_BYTES_MAX 1608u      /* no case file is longer; of edition 1, none is longer than 1,480 */
 #define SHAHFUREEL_REPLY_BYTES 92u           /* a reply buffer has at least as many bytes */
 #define SHAHFUREEL_ROW_NUMBERS 19u           /* numbers to a unit in a list of rows */
 #define SHAHFUREEL_ROWS_NUMBERS 608u         /* a list of rows for unpacking has at least as many numbers */
@@ -84,12 +84,22 @@ extern "C" {
 #define SHAHFUREEL_VIEW_REQUEST_BYTES 5u     /* a Modbus request: function, start and quantity */
 #define SHAHFUREEL_VIEW_ANSWER_BYTES 252u    /* a buffer for a Modbus answer has at least as many bytes */
 
+/* ---- editions of the case file. Edition 1 is what shahfureel_pack writes and shahfureel_unpack reads. In edition 2 each unit
+ * also has b1, a linear loss, from -10,000,000 to 10,000,000: at output p the unit loses b1 * p hundred-millionths of a step
+ * more. It is a B0 coefficient times 100,000,000, and may be negative. Edition 1 is read as b1 = 0. shahfureel_dispatch and
+ * shahfureel_price take both editions.
+ *
+ * To make a file of edition 2: edition2_pack of examples/edition2.h and edition2.c takes rows as shahfureel_pack does, and a b1
+ * for each. By hand, from the bytes that shahfureel_pack wrote: the first field becomes 2; into each body, behind its byte 25,
+ * go the 4 bytes of b1, big-endian in two's complement, (uint32_t)b1; each length in the contents grows by 4, and the offset of
+ * unit i, counted from 0, by 4 * i. Keep b1 + 19,999 * b below 100,000,000, or the unit is refused with 18. */
+
 /* ---- a row: the place of each number. Unit i of a list, counted from 0, starts at rows[SHAHFUREEL_ROW_NUMBERS * i].
  *
- * Outputs are in steps of 0.1 MW. At a running output p a unit costs c0 + c1 * p + c2 * p * p millionths of the currency per hour;
- * a unit that stands costs nothing, not even c0. At output p it loses b * p * p hundred-millionths of a step. So a set that costs
- * A + B * P + C * P * P an hour while it runs, and loses L * P * P MW, at P MW, has c0 = 1,000,000 A, c1 = 100,000 B, c2 = 10,000 C,
- * b = 10,000,000 L.
+ * Outputs are in steps of 0.1 MW. At a running output p a unit costs c0 + c1 * p + c2 * p * p millionths of the currency per
+ * hour; a unit that stands costs nothing, not even c0. At output p it loses b * p * p hundred-millionths of a step, and in
+ * edition 2 also b1 * p. So a set that costs A + B * P + C * P * P an hour while it runs, and loses L * P * P + K * P MW, at P
+ * MW, has c0 = 1,000,000 A, c1 = 100,000 B, c2 = 10,000 C, b = 10,000,000 L, b1 = 100,000,000 K.
  *
  * A running output lies from least to greatest and strictly inside no zone (both edges are permitted). If previous is above 0, a
  * running output also lies from previous - down to previous + up: 0 means that the set may not move that way, 10,000 that there
@@ -166,12 +176,14 @@ static inline uint16_t shahfureel_reply_output(const uint8_t *reply, size_t unit
 
 /* ---- refusals, and what to do
  *
- * The first that applies is given: dispatch 1 to 11; pricing 14, 1, 2 to 11; unpacking 1 to 10; packing 12, 5, row by row 7 to
- * 10, then 13; the view 1, 15, 16, 17.
+ * The first that applies is given: dispatch 1 to 6, unit by unit 7, 8, 18, 9, 10, then 11; pricing 14, 1, then as dispatch from
+ * 2 on; unpacking 1 to 6, unit by unit 7 to 10; packing 12, 5, row by row 7 to 10, then 13; the view 1, 15, 16, 17.
  *
- * 7 to 10 from packing: to find the row, pack the rows one by one, each as a list of its 19 numbers with demand 0. The row that is
- * refused is the one. From a call on a file: a file that packing has written is never refused with 2 to 10, if it is passed with
- * its exact length; so another program has made this one, or it was damaged.
+ * 7 to 10 from packing: to find the row, pack the rows one by one, each as a list of its 19 numbers with demand 0. The row that
+ * is refused is the one. From a call on a file: a file that packing has written is never refused with 2 to 10 or 18, if it is
+ * passed with its exact length; so another program has made this one, or it was damaged.
+ *
+ * 3 from unpacking, for a file that dispatch takes: it is of edition 2, and a row has no place for b1.
  *
  * 11: dispatch the same rows with demand 0. Refused with 11 again: zones and ramp limits leave a must-run set no output at all
  * (dispatch the rows one by one with demand 0 to find it). Answered: the sets together give too little for the demand, as
@@ -183,7 +195,7 @@ static inline uint16_t shahfureel_reply_output(const uint8_t *reply, size_t unit
 enum shahfureel_refusal {
     SHAHFUREEL_BUFFER_TOO_SHORT = 1,         /* lend a reply of 92 bytes, rows of 608 numbers, answers of 2 */
     SHAHFUREEL_FILE_TOO_SHORT = 2,           /* the file has less than its 8 bytes of head: was it read whole? */
-    SHAHFUREEL_EDITION_UNKNOWN = 3,          /* the first field is not 1: another format, or bytes swapped */
+    SHAHFUREEL_EDITION_UNKNOWN = 3,          /* the first field is neither 1 nor 2, or for unpacking not 1: bytes swapped? */
     SHAHFUREEL_COUNT_OUT_OF_RANGE = 4,       /* the file names no unit, or more than 32 */
     SHAHFUREEL_DEMAND_OUT_OF_RANGE = 5,      /* the demand is above 320,000 steps: is it in steps of 0.1 MW? */
     SHAHFUREEL_CONTENTS_INVALID = 6,         /* offsets, lengths or the file's end do not fit: cut, or its room passed? */
@@ -193,33 +205,36 @@ enum shahfureel_refusal {
     SHAHFUREEL_RAMP_OR_MARK_OUT_OF_RANGE = 10, /* previous, up or down above 10,000, or a mark that is not 0 or 1 */
     SHAHFUREEL_NO_ALLOCATION = 11,           /* no permitted outputs cover the demand after losses: see above */
     SHAHFUREEL_ROWS_INVALID = 12,            /* rows_length is 0, above 608, or not 19 to a unit: does it count numbers? */
-    SHAHFUREEL_FILE_BUFFER_TOO_SHORT = 13,   /* lend a file buffer of 1,480 bytes */
+    SHAHFUREEL_FILE_BUFFER_TOO_SHORT = 13,   /* lend a file buffer of SHAHFUREEL_FILE_BYTES_MAX bytes */
     SHAHFUREEL_MULTIPLIER_OUT_OF_RANGE = 14, /* the multiplier is above 65,536 */
     SHAHFUREEL_REPLY_MALFORMED = 15,         /* the reply is not 28 + 2 * units bytes, units 1 to 32: was its room passed? */
     SHAHFUREEL_REQUEST_LENGTH_INVALID = 16,  /* the request is not 5 bytes: one of another function, or with its header? */
-    SHAHFUREEL_ANSWER_TOO_SHORT = 17         /* lend an answer of 252 bytes */
+    SHAHFUREEL_ANSWER_TOO_SHORT = 17,        /* lend an answer of 252 bytes */
+    SHAHFUREEL_LOSSES_OUT_OF_RANGE = 18      /* edition 2: b1 outside -10,000,000 to 10,000,000, or b1 + 19,999 * b at or above
+                                                100,000,000: near 10,000 steps the net would not grow with the output */
 };
 
 /* ---- calls. README.md, "The formats", has the case file byte by byte. */
 
-/* Dispatches a case file. Returns the reply's length, 28 + 2 * units, and writes the reply; or returns a refusal, which is below
- * SHAHFUREEL_LENGTH_MIN. The outputs in the reply are permitted and cover the demand after losses; no permitted outputs that cover
- * it cost less than cost - gap. */
+/* Dispatches a case file, of either edition. Returns the reply's length, 28 + 2 * units, and writes the reply; or returns a
+ * refusal, which is below SHAHFUREEL_LENGTH_MIN. The outputs in the reply are permitted and cover the demand after losses; no
+ * permitted outputs that cover it cost less than cost - gap. */
 uint32_t shahfureel_dispatch(const uint8_t *file, size_t file_length, uint8_t *reply, size_t reply_room);
 
-/* Prices a case file at a multiplier, a price of energy in hundredths of the currency per MWh. Returns 0 and writes answers[0],
- * the dual value, and answers[1], 1 where the units' choices at that price cover the demand and else 0; or returns a refusal.
- * The dual value, divided by 100,000 and rounded up, is a lower bound on the cost of whatever covers the demand, in millionths
- * of the currency per hour. It may be negative. (answers_room counts numbers: at least 2.) */
+/* Prices a case file, of either edition, at a multiplier, a price of energy in hundredths of the currency per MWh. Returns 0
+ * and writes answers[0], the dual value, and answers[1], 1 where the units' choices at that price cover the demand and else 0;
+ * or returns a refusal. The dual value, divided by 100,000 and rounded up, is a lower bound on the cost of whatever covers the
+ * demand, in millionths of the currency per hour. It may be negative. (answers_room counts numbers: at least 2.) */
 uint32_t shahfureel_price(const uint8_t *file, size_t file_length, uint32_t multiplier, int64_t *answers, size_t answers_room);
 
-/* Packs a demand, in steps of 0.1 MW, and rows into a case file. Returns the file's length, which is the file_length of the other
- * calls, and writes the file; or returns a refusal, which is below SHAHFUREEL_LENGTH_MIN. (rows_length counts numbers, 19 to a
- * unit; file_room counts bytes, and 1,480 are always enough.) */
+/* Packs a demand, in steps of 0.1 MW, and rows into a case file of edition 1. Returns the file's length, which is the
+ * file_length of the other calls, and writes the file; or returns a refusal, which is below SHAHFUREEL_LENGTH_MIN. (rows_length
+ * counts numbers, 19 to a unit; file_room counts bytes, and 1,480 are always enough.) */
 uint32_t shahfureel_pack(uint32_t demand, const uint32_t *rows, size_t rows_length, uint8_t *file, size_t file_room);
 
-/* Unpacks a case file. Returns 0 and writes 19 numbers to a unit into rows, and answers[0], the demand, and answers[1], the
- * number of units; or returns a refusal. (rows_room and answers_room count numbers: at least 608 and 2.) */
+/* Unpacks a case file of edition 1; one of edition 2 is refused with 3. Returns 0 and writes 19 numbers to a unit into rows,
+ * and answers[0], the demand, and answers[1], the number of units; or returns a refusal. (rows_room and answers_room count
+ * numbers: at least 608 and 2.) */
 uint32_t shahfureel_unpack(const uint8_t *file, size_t file_length, uint32_t *rows, size_t rows_room, int64_t *answers,
                            size_t answers_room);
 
@@ -229,8 +244,9 @@ uint32_t shahfureel_unpack(const uint8_t *file, size_t file_length, uint32_t *ro
  *   - The request is a protocol data unit of 5 bytes, without a header or a checksum of the line: the function, then the start and
  *     the quantity, 2 bytes each.
  *   - Function 3, read holding registers, is answered with the function, the byte count 2 * quantity, and the registers.
- *   - What cannot be served is answered too, with 2 bytes: the request's function plus 128, unless it has that bit, and the exception's number: 1 for another
- *     function, else 3 for a quantity outside 1 to 125, else 2 where start + quantity is above 14 + units. That is no refusal.
+ *   - What cannot be served is answered too, with 2 bytes: the request's function plus 128, unless it has that bit, and the
+ *     exception's number: 1 for another function, else 3 for a quantity outside 1 to 125, else 2 where start + quantity is above
+ *     14 + units. That is no refusal.
  * (answer_room counts bytes: at least 252. answers_room counts numbers: at least 1.) */
 uint32_t shahfureel_view(const uint8_t *reply, size_t reply_length, const uint8_t *request, size_t request_length,
                          uint8_t *answer, size_t answer_room, int64_t *answers, size_t answers_room);

@@ -1,9 +1,11 @@
 /* From a site's numbers to a dispatch. Usage: site FILE.csv DEMAND_MW [--case CASE]
  *
  * Reads the sets of a site from a CSV file, packs them into a case file, dispatches it, and prints who gives how much, what it
- * costs and how far from the best that can be at most. With --case it also writes the case file. README.md, "From a site's
- * numbers to a dispatch", has the columns. All numbers are converted exactly; none goes through floating point. What cannot be
- * taken is named on standard error by line and column; then no case file is written, and the status is 1. */
+ * costs and how far from the best that can be at most. With --case it also writes the case file, which is of edition 2 if the site
+ * has a column L1, and else of edition 1. README.md, "From a site's numbers to a dispatch", has the columns. All numbers are
+ * converted exactly; none goes through floating point. What cannot be taken is named on standard error by line and column; then no
+ * case file is written, and the status is 1. */
+#include "edition2.h"
 #include "shahfureel.h"
 
 #include <errno.h>
@@ -13,12 +15,12 @@
 
 enum { TEXT_MAX = 1000000, ZONES_MAX = 4, NO_LIMIT = 10000 };
 
-/* The columns; but for the name, a column's number is its place in a row. Zone edges follow from EDGES on. */
-enum column { A, B, C, L, LEAST, GREATEST, PREVIOUS, UP, DOWN, MUST_RUN, ZONES, NAME, COLUMNS };
+/* The columns; up to ZONES a column's number is its place in a row. Zone edges follow from EDGES on. L1 may be left out. */
+enum column { A, B, C, L, LEAST, GREATEST, PREVIOUS, UP, DOWN, MUST_RUN, ZONES, NAME, L1, COLUMNS };
 enum { EDGES = ZONES + 1 };
 
 static const char *const TITLES[COLUMNS] = {"A",  "B",    "C",        "L",     "least", "greatest", "previous",
-                                            "up", "down", "must run", "zones", "name"};
+                                            "up", "down", "must run", "zones", "name",  "L1"};
 
 /* How a planner's number becomes a whole one: times 10 ^ decimals, at most limit; and both in words. */
 struct quantity {
@@ -33,6 +35,7 @@ static const struct quantity COEFFICIENTS[LEAST] = {
     {4, 1000, "0.0001", "0.1"},
     {7, 5000, "0.0000001", "0.0005"},
 };
+static const struct quantity LINEAR_LOSS = {8, EDITION2_B1_MAX, "0.00000001", "0.1"};
 static const struct quantity OUTPUT = {1, 10000, "0.1 MW", "1,000 MW"};
 static const struct quantity DEMAND = {1, SHAHFUREEL_DEMAND_MAX, "0.1 MW", "32,000 MW"};
 
@@ -48,11 +51,19 @@ struct place {
     const char *column;
 };
 
+/* Which column each field of a line is. */
+struct header {
+    size_t fields;
+    enum column order[COLUMNS];
+};
+
 struct site {
     size_t count;
+    int has_b1;
     struct text names[SHAHFUREEL_UNITS_MAX];
     size_t lines[SHAHFUREEL_UNITS_MAX];
     uint32_t rows[SHAHFUREEL_ROWS_NUMBERS];
+    int32_t b1[SHAHFUREEL_UNITS_MAX];
 };
 
 struct result {
@@ -114,8 +125,10 @@ static int wrong_file(const char *name, const char *what)
 
 /* ---- numbers */
 
-/* Reads digits with at most one point among them as a whole number of the quantity's unit. */
-static int read_number(struct place p, struct text t, const struct quantity *q, uint32_t *number)
+enum measured { FINE, NO_NUMBER, ABOVE, NOT_WHOLE };
+
+/* Measures digits with at most one point among them as a whole number of the quantity's unit. */
+static enum measured measure(struct text t, const struct quantity *q, uint32_t *number)
 {
     uint64_t n = 0;
     size_t digits = 0, points = 0;
@@ -125,7 +138,7 @@ static int read_number(struct place p, struct text t, const struct quantity *q, 
         if (t.at[i] == '.' && points == 0) {
             points = 1;
         } else if (!is_digit(t.at[i])) {
-            return wrong(p, t, "is not a number like 12 or 12.5", "");
+            return NO_NUMBER;
         } else {
             digits++;
             if (points == 0 || decimals < q->decimals) {
@@ -142,15 +155,46 @@ static int read_number(struct place p, struct text t, const struct quantity *q, 
         }
     }
     if (digits == 0)
-        return wrong(p, t, "is not a number like 12 or 12.5", "");
+        return NO_NUMBER;
     for (; decimals < q->decimals; decimals++)
         n *= 10;
     if (above || n > q->limit)
-        return wrong(p, t, "is above ", q->most);
-    if (!whole)
-        return wrong(p, t, "is not a whole number of ", q->unit);
+        return ABOVE;
     *number = (uint32_t)n;
-    return 1;
+    return whole ? FINE : NOT_WHOLE;
+}
+
+static int read_number(struct place p, struct text t, const struct quantity *q, uint32_t *number)
+{
+    switch (measure(t, q, number)) {
+    case FINE:
+        return 1;
+    case ABOVE:
+        return wrong(p, t, "is above ", q->most);
+    case NOT_WHOLE:
+        return wrong(p, t, "is not a whole number of ", q->unit);
+    default:
+        return wrong(p, t, "is not a number like 12 or 12.5", "");
+    }
+}
+
+/* Reads a linear loss, which may have a minus before it; nothing is 0. */
+static int read_linear_loss(struct place p, struct text t, int32_t *b1)
+{
+    int negative = t.length > 0 && t.at[0] == '-';
+    struct text size = {t.at + negative, t.length - (size_t)negative};
+    uint32_t number = 0;
+    switch (t.length == 0 ? FINE : measure(size, &LINEAR_LOSS, &number)) {
+    case FINE:
+        *b1 = negative ? -(int32_t)number : (int32_t)number;
+        return 1;
+    case ABOVE:
+        return wrong(p, t, negative ? "is below -" : "is above ", LINEAR_LOSS.most);
+    case NOT_WHOLE:
+        return wrong(p, t, "is not a whole number of ", LINEAR_LOSS.unit);
+    default:
+        return wrong(p, t, "is not a number like 0.02 or -0.02", "");
+    }
 }
 
 /* Reads zones such as 4.5-5.5, with blanks between them. Counts them all and keeps the edges of four; packing refuses more. */
@@ -224,11 +268,10 @@ static int next_field(size_t line, char **at, char *end, struct text *field)
     return 1;
 }
 
-/* Reads the header: which column each field of a line is. */
-static int read_header(size_t line, char *at, char *end, enum column *order)
+static int read_header(size_t line, char *at, char *end, struct header *h)
 {
     int fine = 1, seen[COLUMNS] = {0};
-    for (size_t fields = 0; at != NULL; fields++) {
+    for (h->fields = 0; at != NULL; h->fields++) {
         struct text title;
         if (!next_field(line, &at, end, &title))
             return 0;
@@ -241,17 +284,18 @@ static int read_header(size_t line, char *at, char *end, enum column *order)
         } else if (seen[c]++ > 0) {
             fprintf(stderr, "line %zu: column %s is there twice\n", line, TITLES[c]);
             fine = 0;
-        } else if (fields < COLUMNS) {
-            order[fields] = (enum column)c;
+        } else if (h->fields < COLUMNS) {
+            h->order[h->fields] = (enum column)c;
         }
     }
-    for (size_t c = 0; c < COLUMNS; c++)
+    for (size_t c = 0; c < L1; c++)
         if (!seen[c]) {
             fprintf(stderr, "line %zu: column %s is missing\n", line, TITLES[c]);
             fine = 0;
         }
     if (!fine)
-        fprintf(stderr, "the columns, with commas between: name, A, B, C, L, least, greatest, previous, up, down, must run, zones\n");
+        fprintf(stderr, "the columns, with commas between: name, A, B, C, L, least, greatest, previous, up, down, must run, zones;"
+                        " also L1 where losses have a linear part\n");
     return fine;
 }
 
@@ -281,28 +325,29 @@ static int read_value(struct place p, enum column c, struct text value, uint32_t
 }
 
 /* Reads a line as the site's next set. */
-static int read_set(size_t line, char *at, char *end, const enum column *order, struct site *s)
+static int read_set(size_t line, char *at, char *end, const struct header *h, struct site *s)
 {
-    struct text values[COLUMNS];
+    struct text values[COLUMNS] = {{NULL, 0}};
     size_t fields = 0;
     int fine = 1;
     for (; at != NULL; fields++) {
         struct text value;
         if (!next_field(line, &at, end, &value))
             return 0;
-        if (fields < COLUMNS)
-            values[order[fields]] = value;
+        if (fields < h->fields)
+            values[h->order[fields]] = value;
     }
-    if (fields != COLUMNS) {
-        fprintf(stderr, "line %zu: it has %zu fields, and the header has %d\n", line, fields, COLUMNS);
+    if (fields != h->fields) {
+        fprintf(stderr, "line %zu: it has %zu fields, and the header has %zu\n", line, fields, h->fields);
         return 0;
     }
     for (size_t c = 0; c < NAME; c++) {
         struct place p = {line, TITLES[c]};
         fine &= read_value(p, (enum column)c, values[c], s->rows + s->count * SHAHFUREEL_ROW_NUMBERS);
     }
-    struct place p = {line, TITLES[NAME]};
-    fine &= read_name(p, values[NAME], s);
+    struct place of_name = {line, TITLES[NAME]}, of_loss = {line, TITLES[L1]};
+    fine &= read_linear_loss(of_loss, values[L1], &s->b1[s->count]);
+    fine &= read_name(of_name, values[NAME], s);
     s->names[s->count] = values[NAME];
     s->lines[s->count] = line;
     s->count++;
@@ -335,8 +380,8 @@ static int is_plain(const char *line, const char *end)
 /* Reads the site's sets. The names stay parts of the text. */
 static int read_site(const char *name, char *text, struct site *s)
 {
-    enum column order[COLUMNS];
-    int fine = 1, headed = 0;
+    struct header header = {0, {A}};
+    int fine = 1;
     size_t length;
     if (!read_text(name, text, &length))
         return 0;
@@ -354,28 +399,31 @@ static int read_site(const char *name, char *text, struct site *s)
             at = next;
             continue;
         }
-        if (!headed) {
-            if (!read_header(line, at, end, order))
+        if (header.fields == 0) {
+            if (!read_header(line, at, end, &header))
                 return 0;
-            headed = 1;
+            s->has_b1 = header.fields == COLUMNS;
         } else if (s->count == SHAHFUREEL_UNITS_MAX) {
             return wrong_line(line, "a 33rd set, and a site has at most 32");
         } else {
-            fine &= read_set(line, at, end, order, s);
+            fine &= read_set(line, at, end, &header, s);
         }
         at = next;
     }
-    if (!headed)
+    if (header.fields == 0)
         return wrong_file(name, "it has no line of columns");
     return s->count > 0 || !fine ? fine : wrong_file(name, "it has no sets");
 }
 
 /* ---- dispatching */
 
-/* Packs rows and dispatches them. Returns 0 or a refusal. */
-static uint32_t dispatch(uint32_t demand, const uint32_t *rows, size_t count, struct result *r)
+/* Packs some sets of the site, from the first on, and dispatches them. Returns 0 or a refusal. */
+static uint32_t dispatch(uint32_t demand, const struct site *s, size_t first, size_t count, struct result *r)
 {
-    r->length = shahfureel_pack(demand, rows, count * SHAHFUREEL_ROW_NUMBERS, r->file, sizeof r->file);
+    const uint32_t *rows = s->rows + first * SHAHFUREEL_ROW_NUMBERS;
+    size_t numbers = count * SHAHFUREEL_ROW_NUMBERS;
+    r->length = s->has_b1 ? edition2_pack(demand, rows, numbers, s->b1 + first, r->file, sizeof r->file)
+                          : shahfureel_pack(demand, rows, numbers, r->file, sizeof r->file);
     if (r->length < SHAHFUREEL_LENGTH_MIN)
         return r->length;
     uint32_t answer = shahfureel_dispatch(r->file, r->length, r->reply, sizeof r->reply);
@@ -392,7 +440,7 @@ static void complain_of_steps(const char *before, uint32_t steps, const char *be
     fprintf(stderr, "%s%" PRIu32 ".%" PRIu32 "%s", before, steps / 10, steps % 10, behind);
 }
 
-/* Says why packing refuses a set by itself. */
+/* Says why a set is refused by itself. */
 static void explain_row(const struct site *s, size_t i, uint32_t refusal)
 {
     const uint32_t *row = s->rows + i * SHAHFUREEL_ROW_NUMBERS;
@@ -404,6 +452,8 @@ static void explain_row(const struct site *s, size_t i, uint32_t refusal)
         for (uint32_t e = 0; e < 2 * row[ZONES]; e++)
             complain_of_steps(" ", row[EDGES + e], "");
         complain_of_steps(" ", row[GREATEST], "\n");
+    } else if (refusal == SHAHFUREEL_LOSSES_OUT_OF_RANGE) {
+        complain_of_set(s, i, "L1 + 1999.9 L is not below 1: near 1,000 MW its losses would grow as fast as its output\n");
     } else {
         complain_of_set(s, i, "");
         fprintf(stderr, "it is refused with %" PRIu32 ": see include/shahfureel.h\n", refusal);
@@ -426,7 +476,7 @@ static void explain_shortage(const struct site *s, uint32_t demand, struct resul
     uint32_t covered = 0, refused = demand;
     while (refused - covered > 1) {
         uint32_t middle = covered + (refused - covered) / 2;
-        if (dispatch(middle, s->rows, s->count, r) == 0)
+        if (dispatch(middle, s, 0, s->count, r) == 0)
             covered = middle;
         else
             refused = middle;
@@ -439,12 +489,12 @@ static void explain_shortage(const struct site *s, uint32_t demand, struct resul
 /* Says in words why a site was refused: if not for its demand, then for sets that are refused also alone and at no demand. */
 static void explain(const struct site *s, uint32_t demand, struct result *r)
 {
-    if (dispatch(0, s->rows, s->count, r) == 0) {
+    if (dispatch(0, s, 0, s->count, r) == 0) {
         explain_shortage(s, demand, r);
         return;
     }
     for (size_t i = 0; i < s->count; i++) {
-        uint32_t own = dispatch(0, s->rows + i * SHAHFUREEL_ROW_NUMBERS, 1, r);
+        uint32_t own = dispatch(0, s, i, 1, r);
         if (own == SHAHFUREEL_NO_ALLOCATION)
             explain_stuck(s, i);
         else if (own != 0)
@@ -519,7 +569,7 @@ int main(int words, char **word)
     int demand_read = read_number(demand_given, text_of(word[2]), &DEMAND, &demand);
     if (!read_site(word[1], text, &s) || !demand_read)
         return 1;
-    if (dispatch(demand, s.rows, s.count, &r) != 0) {
+    if (dispatch(demand, &s, 0, s.count, &r) != 0) {
         explain(&s, demand, &r);
         return 1;
     }

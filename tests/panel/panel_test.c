@@ -21,7 +21,7 @@ static void expect(int holds, const char *call, const char *what)
 
 /* ---- buffers between guards. Sizes and places are written out here and below; `sizes_named` compares the header's with them. */
 
-enum { GUARD = 16, ALIGNMENTS = 8, FILLED = 0xA5, BYTES = 1480, NUMBERS = 608, ANSWERS = 3 };
+enum { GUARD = 16, ALIGNMENTS = 8, FILLED = 0xA5, BYTES = 1608, NUMBERS = 608, ANSWERS = 3 };
 
 static uint8_t byte_space[GUARD + ALIGNMENTS + BYTES + GUARD];
 static uint32_t number_space[GUARD + NUMBERS + GUARD];
@@ -73,8 +73,10 @@ static const struct {
     uint32_t number;
     const char *what;
 } damaged[] = {
-    {1, 2, SHAHFUREEL_EDITION_UNKNOWN, "edition 2 is 3"},
+    {1, 0, SHAHFUREEL_EDITION_UNKNOWN, "edition 0 is 3"},
+    {1, 3, SHAHFUREEL_EDITION_UNKNOWN, "edition 3 is 3"},
     {0, 1, SHAHFUREEL_EDITION_UNKNOWN, "edition 257 is 3"},
+    {0, 2, SHAHFUREEL_EDITION_UNKNOWN, "edition 513 is 3"},
     {3, 0, SHAHFUREEL_COUNT_OUT_OF_RANGE, "no unit is 4"},
     {3, 33, SHAHFUREEL_COUNT_OUT_OF_RANGE, "33 units are 4"},
     {4, 1, SHAHFUREEL_DEMAND_OUT_OF_RANGE, "a demand above 320,000 is 5"},
@@ -100,6 +102,57 @@ static const struct {
 
 enum { DAMAGED = sizeof damaged / sizeof damaged[0] };
 
+/* ---- edition 2: U with demand 5 and b1 -10,000,000, byte by byte; and the bytes of b1 10,000,000 */
+
+enum { E2_BYTES = 46, E2_B1_AT = 38 };
+
+static const uint8_t E2[E2_BYTES] = {0x00, 0x02, 0x00, 0x01, 0x00, 0x00, 0x00, 0x05, 0x00, 0x0C, 0x00, 0x22, 0x00, 0x00, 0x00, 0x00,
+                                     0x00, 0x00, 0x27, 0x10, 0x03, 0xE8, 0x00, 0x00, 0x00, 0x02, 0x00, 0x0A, 0x00, 0x00, 0x00, 0x00,
+                                     0x00, 0x00, 0x00, 0x00, 0x00, 0x01, 0xFF, 0x67, 0x69, 0x80, 0x00, 0x04, 0x00, 0x07};
+
+static const uint8_t E2_B1_POSITIVE[4] = {0x00, 0x98, 0x96, 0x80};
+
+/* 18 evaluations, cost 119,000, gap 51,600, surplus 270,000,000, output 7 */
+static const uint8_t E2_REPLY[30] = {0x00, 0x01, 0x00, 0x12, 0x00, 0x00, 0x00, 0x00, 0x00, 0x01,
+                                     0xD0, 0xD8, 0x00, 0x00, 0x00, 0x00, 0x00, 0x00, 0xC9, 0x90,
+                                     0x00, 0x00, 0x00, 0x00, 0x10, 0x17, 0xDF, 0x80, 0x00, 0x07};
+
+/* the same but gap 30,800, surplus 130,000,000 */
+static const uint8_t E2_POSITIVE_REPLY[30] = {0x00, 0x01, 0x00, 0x12, 0x00, 0x00, 0x00, 0x00, 0x00, 0x01,
+                                              0xD0, 0xD8, 0x00, 0x00, 0x00, 0x00, 0x00, 0x00, 0x78, 0x50,
+                                              0x00, 0x00, 0x00, 0x00, 0x07, 0xBF, 0xA4, 0x80, 0x00, 0x07};
+
+/* E2 with other b and b1 and one byte more changed (byte 1, the edition, has 2 anyway), and the number that dispatch and pricing give
+ * it; unpacking gives 3 to all of them */
+static const struct {
+    uint32_t b;
+    int32_t b1;
+    size_t at;
+    uint8_t value;
+    uint32_t number;
+    const char *what;
+} damaged_2[] = {
+    {0, 10000001, 1, 2, SHAHFUREEL_LOSSES_OUT_OF_RANGE, "b1 above 10,000,000 is 18"},
+    {0, -10000001, 1, 2, SHAHFUREEL_LOSSES_OUT_OF_RANGE, "b1 below -10,000,000 is 18"},
+    {0, INT32_MAX, 1, 2, SHAHFUREEL_LOSSES_OUT_OF_RANGE, "the greatest number of 32 bits is 18"},
+    {0, INT32_MIN, 1, 2, SHAHFUREEL_LOSSES_OUT_OF_RANGE, "the least number of 32 bits is 18"},
+    {5000, 5000, 1, 2, SHAHFUREEL_LOSSES_OUT_OF_RANGE, "b 5,000 with b1 5,000 is 18"},
+    {4501, 9984501, 1, 2, SHAHFUREEL_LOSSES_OUT_OF_RANGE, "b 4,501 with b1 9,984,501 is 18"},
+    {5001, 10000001, 1, 2, SHAHFUREEL_COEFFICIENT_OUT_OF_RANGE, "8 comes before 18"},
+    {0, 10000001, 25, 0, SHAHFUREEL_LOSSES_OUT_OF_RANGE, "18 comes before 9"},
+    {0, 10000001, 35, 2, SHAHFUREEL_LOSSES_OUT_OF_RANGE, "18 comes before 10"},
+    {0, 10000001, 37, 5, SHAHFUREEL_ZONE_COUNT_INVALID, "7 comes before 18"},
+    {0, 10000001, 11, 26, SHAHFUREEL_CONTENTS_INVALID, "a length of 26 in edition 2 is 6"},
+    {0, 0, 37, 2, SHAHFUREEL_ZONE_COUNT_INVALID, "two zones in a body of 34 bytes are 7 in edition 2"},
+    {0, 0, 43, 2, SHAHFUREEL_LIMITS_INVALID, "a lower edge, at 30 in edition 2, at the least output is 9"},
+    {0, 0, 45, 10, SHAHFUREEL_LIMITS_INVALID, "an upper edge, at 32 in edition 2, at the greatest output is 9"},
+    {0, 0, 35, 2, SHAHFUREEL_RAMP_OR_MARK_OUT_OF_RANGE, "a mark of 2 is 10 in edition 2"},
+    {0, 1, 7, 10, SHAHFUREEL_NO_ALLOCATION, "b1 1 leaves less than 10 steps"},
+    {0, -10000000, 7, 12, SHAHFUREEL_NO_ALLOCATION, "b1 -10,000,000 gives no 12 steps"},
+};
+
+enum { DAMAGED_2 = sizeof damaged_2 / sizeof damaged_2[0] };
+
 /* ---- inputs in memory that ends with them, so that valgrind sees a call that reads or writes past them */
 
 static void *copy_of(const void *from, size_t size, size_t alignment)
@@ -119,8 +172,8 @@ static void release(const char *call, void *at, const void *from, size_t size, s
     free(block);
 }
 
-/* U5, or what it becomes by one changed byte, with room for one byte more */
-static uint8_t case_file[U5_BYTES + 1];
+/* U5 or E2, or what they become by changed bytes, with room for one byte more */
+static uint8_t case_file[E2_BYTES + 1];
 
 static const uint8_t *u5(void)
 {
@@ -132,6 +185,40 @@ static const uint8_t *u5_but(size_t at, uint8_t value)
 {
     u5();
     case_file[at] = value;
+    return case_file;
+}
+
+static void put(uint8_t *at, uint32_t number, int bytes)
+{
+    for (int i = bytes - 1; i >= 0; i--, number >>= 8)
+        at[i] = (uint8_t)number;
+}
+
+static const uint8_t *e2(void)
+{
+    memcpy(case_file, E2, E2_BYTES);
+    return case_file;
+}
+
+static const uint8_t *e2_but(size_t at, uint8_t value)
+{
+    e2();
+    case_file[at] = value;
+    return case_file;
+}
+
+static const uint8_t *e2_with(uint32_t b, int32_t b1)
+{
+    e2();
+    put(case_file + 22, b, 2);
+    put(case_file + E2_B1_AT, (uint32_t)b1, 4);
+    return case_file;
+}
+
+static const uint8_t *e2_damaged(size_t i)
+{
+    e2_with(damaged_2[i].b, damaged_2[i].b1);
+    case_file[damaged_2[i].at] = damaged_2[i].value;
     return case_file;
 }
 
@@ -153,11 +240,13 @@ static void dispatch_gives(const uint8_t *file, size_t file_length, size_t align
     expect(all_kept(), "dispatch", "a refusal changes nothing");
 }
 
-static void dispatch_replies(size_t alignment, size_t reply_room)
+/* the reply to a file of one unit */
+static void dispatch_replies(const uint8_t *file, size_t file_length, size_t alignment, size_t reply_room, const uint8_t *wanted,
+                             const char *what)
 {
     const uint8_t *reply = byte_space + GUARD + alignment;
-    expect(dispatch(u5(), U5_BYTES, alignment, reply_room) == sizeof U5_REPLY, "dispatch", "U5 returns 30");
-    expect(memcmp(reply, U5_REPLY, sizeof U5_REPLY) == 0, "dispatch", "U5's reply");
+    expect(dispatch(file, file_length, alignment, reply_room) == sizeof U5_REPLY, "dispatch", what);
+    expect(memcmp(reply, wanted, sizeof U5_REPLY) == 0, "dispatch", what);
     expect(bytes_kept_but(reply, sizeof U5_REPLY), "dispatch", "it writes 28 + 2n bytes and no other");
 }
 
@@ -175,11 +264,35 @@ static void standing_costs_nothing(size_t a)
     expect(shahfureel_reply_output(reply, 0) == 2 && shahfureel_reply_cost(reply) == 74000, "dispatch", "running costs c0 too");
 }
 
+/* U in edition 2: either sign of b1, none, the most beside b, and lengths that one edition has and the other has not */
+static void dispatching_edition_2(size_t a)
+{
+    dispatch_replies(e2(), E2_BYTES, a, SHAHFUREEL_REPLY_BYTES, E2_REPLY, "b1 -10,000,000");
+    dispatch_replies(e2_with(0, 0), E2_BYTES, a, BYTES, U5_REPLY, "b1 0 is replied as edition 1 is");
+    memcpy(case_file + E2_B1_AT, E2_B1_POSITIVE, sizeof E2_B1_POSITIVE);
+    dispatch_replies(case_file, E2_BYTES, a, BYTES, E2_POSITIVE_REPLY, "b1 10,000,000");
+    expect(dispatch(e2_with(5000, 4999), E2_BYTES, a, BYTES) == sizeof U5_REPLY, "dispatch", "b 5,000 with b1 4,999 is accepted");
+    expect(dispatch(e2_but(7, 11), E2_BYTES, a, BYTES) == sizeof U5_REPLY, "dispatch", "b1 -10,000,000 covers 11 steps");
+    expect(shahfureel_reply_output(byte_space + GUARD + a, 0) == 10, "dispatch", "with 10");
+    for (size_t i = 0; i < DAMAGED_2; i++)
+        dispatch_gives(e2_damaged(i), E2_BYTES, a, 92, damaged_2[i].number, damaged_2[i].what);
+    dispatch_gives(e2(), E2_BYTES - 1, a, 92, SHAHFUREEL_CONTENTS_INVALID, "a cut file of edition 2 is 6");
+    dispatch_gives(e2(), E2_BYTES + 1, a, 92, SHAHFUREEL_CONTENTS_INVALID, "a padded file of edition 2 is 6");
+    dispatch_gives(e2_but(1, 1), E2_BYTES, a, 92, SHAHFUREEL_ZONE_COUNT_INVALID, "U of edition 2 as edition 1 is 7");
+    dispatch_gives(u5_but(1, 2), U5_BYTES, a, 92, SHAHFUREEL_ZONE_COUNT_INVALID, "U5 as edition 2 is 7");
+    u5_but(11, 26);
+    case_file[37] = 0;
+    expect(dispatch(case_file, 38, a, BYTES) == sizeof U5_REPLY, "dispatch", "a body of 26 bytes is accepted in edition 1");
+    case_file[1] = 2;
+    dispatch_gives(case_file, 38, a, 92, SHAHFUREEL_CONTENTS_INVALID, "a body of 26 bytes is 6 in edition 2");
+}
+
 static void dispatching(size_t a)
 {
     standing_costs_nothing(a);
-    dispatch_replies(a, SHAHFUREEL_REPLY_BYTES);
-    dispatch_replies(a, BYTES);
+    dispatching_edition_2(a);
+    dispatch_replies(u5(), U5_BYTES, a, SHAHFUREEL_REPLY_BYTES, U5_REPLY, "U5");
+    dispatch_replies(u5(), U5_BYTES, a, BYTES, U5_REPLY, "U5");
     dispatch_gives(u5(), U5_BYTES, a, 0, SHAHFUREEL_BUFFER_TOO_SHORT, "a reply of no byte is 1");
     dispatch_gives(u5(), U5_BYTES, a, 91, SHAHFUREEL_BUFFER_TOO_SHORT, "a reply of 91 bytes is 1");
     dispatch_gives(u5(), 0, a, 91, SHAHFUREEL_BUFFER_TOO_SHORT, "1 comes before 2");
@@ -211,19 +324,32 @@ static void price_gives(const uint8_t *file, size_t file_length, size_t alignmen
     expect(all_kept(), "price", "a refusal changes nothing");
 }
 
-static void price_values(size_t alignment, uint32_t multiplier, size_t answers_room, int64_t dual, int64_t covered)
+static void price_values(const uint8_t *file, size_t file_length, size_t alignment, uint32_t multiplier, size_t answers_room,
+                         int64_t dual, int64_t covered)
 {
-    expect(price(u5(), U5_BYTES, alignment, multiplier, answers_room) == 0, "price", "U5 returns 0");
-    expect(answers[0] == dual && answers[1] == covered, "price", "U5's dual value and cover");
+    expect(price(file, file_length, alignment, multiplier, answers_room) == 0, "price", "it returns 0");
+    expect(answers[0] == dual && answers[1] == covered, "price", "dual value and cover");
     expect(answers_kept_but(2), "price", "it writes two answers and no other");
+}
+
+/* at 21, where 4 and 7 tie without b1 */
+static void pricing_edition_2(size_t a)
+{
+    price_values(e2_with(0, 0), E2_BYTES, a, 21, 2, INT64_C(7700000000), 1);
+    price_values(e2_with(0, -1), E2_BYTES, a, 21, 2, INT64_C(7699999853), 1);
+    price_values(e2_with(0, 1), E2_BYTES, a, 21, 2, INT64_C(7700000084), 0);
+    price_values(e2(), E2_BYTES, a, SHAHFUREEL_MULTIPLIER_MAX, ANSWERS, INT64_C(-39301600000000), 1);
+    for (size_t i = 0; i < DAMAGED_2; i++)
+        price_gives(e2_damaged(i), E2_BYTES, a, 21, 2, damaged_2[i].number, damaged_2[i].what);
 }
 
 static void pricing(size_t a)
 {
-    price_values(a, 20, 2, INT64_C(7600000000), 0);
-    price_values(a, 21, 2, INT64_C(7700000000), 1);
-    price_values(a, 21, ANSWERS, INT64_C(7700000000), 1);
-    price_values(a, SHAHFUREEL_MULTIPLIER_MAX, 2, INT64_C(-32748000000000), 1);
+    pricing_edition_2(a);
+    price_values(u5(), U5_BYTES, a, 20, 2, INT64_C(7600000000), 0);
+    price_values(u5(), U5_BYTES, a, 21, 2, INT64_C(7700000000), 1);
+    price_values(u5(), U5_BYTES, a, 21, ANSWERS, INT64_C(7700000000), 1);
+    price_values(u5(), U5_BYTES, a, SHAHFUREEL_MULTIPLIER_MAX, 2, INT64_C(-32748000000000), 1);
     price_gives(u5(), U5_BYTES, a, 65537, 1, SHAHFUREEL_MULTIPLIER_OUT_OF_RANGE, "14 comes before 1");
     price_gives(u5(), U5_BYTES, a, UINT32_MAX, 2, SHAHFUREEL_MULTIPLIER_OUT_OF_RANGE, "a multiplier is unsigned");
     price_gives(u5(), U5_BYTES, a, 21, 0, SHAHFUREEL_BUFFER_TOO_SHORT, "no answer is 1");
@@ -381,8 +507,24 @@ static void unpack_reads(const uint8_t *file, size_t alignment, size_t answers_r
     expect(answers[0] == demand && answers[1] == 1 && answers_kept_but(2), "unpack", "demand and count");
 }
 
+/* no row has a place for b1: 3, whatever follows in the file */
+static void unpacking_edition_2(size_t a)
+{
+    unpack_gives(e2(), E2_BYTES, a, 608, 2, SHAHFUREEL_EDITION_UNKNOWN, "edition 2 is 3");
+    unpack_gives(e2_with(0, 0), E2_BYTES, a, 608, 2, SHAHFUREEL_EDITION_UNKNOWN, "edition 2 is 3 also with b1 0");
+    unpack_gives(e2(), 8, a, 608, 2, SHAHFUREEL_EDITION_UNKNOWN, "3 comes before 6");
+    unpack_gives(e2_but(3, 0), E2_BYTES, a, 608, 2, SHAHFUREEL_EDITION_UNKNOWN, "3 comes before 4");
+    unpack_gives(e2_but(4, 1), E2_BYTES, a, 608, 2, SHAHFUREEL_EDITION_UNKNOWN, "3 comes before 5");
+    unpack_gives(e2(), 7, a, 608, 2, SHAHFUREEL_FILE_TOO_SHORT, "2 comes before 3");
+    unpack_gives(e2(), E2_BYTES, a, 607, 2, SHAHFUREEL_BUFFER_TOO_SHORT, "1 comes before 3");
+    unpack_gives(e2(), E2_BYTES, a, 608, 1, SHAHFUREEL_BUFFER_TOO_SHORT, "1 for the answers comes before 3");
+    for (size_t i = 0; i < DAMAGED_2; i++)
+        unpack_gives(e2_damaged(i), E2_BYTES, a, 608, 2, SHAHFUREEL_EDITION_UNKNOWN, damaged_2[i].what);
+}
+
 static void unpacking(size_t a)
 {
+    unpacking_edition_2(a);
     unpack_reads(u5(), a, 2, 5);
     unpack_reads(u5(), a, ANSWERS, 5);
     unpack_reads(u5_but(7, 11), a, 2, 11); /* 11 is no refusal of unpacking */
@@ -439,7 +581,7 @@ static void build_u(uint32_t *row)
 
 static void sizes_named(void)
 {
-    expect(SHAHFUREEL_FILE_BYTES_MAX == BYTES && SHAHFUREEL_ROWS_NUMBERS == NUMBERS, "names", "1,480 bytes, 608 numbers");
+    expect(SHAHFUREEL_FILE_BYTES_MAX == BYTES && SHAHFUREEL_ROWS_NUMBERS == NUMBERS, "names", "1,608 bytes, 608 numbers");
     expect(SHAHFUREEL_ROW_NUMBERS == ROW && SHAHFUREEL_ROW_EDGES + 8 == ROW, "names", "19 numbers, the last 8 of them edges");
     expect(SHAHFUREEL_REPLY_BYTES == 92 && SHAHFUREEL_ANSWERS == 2, "names", "92 bytes, 2 answers");
     expect(SHAHFUREEL_UNITS_MAX == 32 && SHAHFUREEL_DEMAND_MAX == 320000, "names", "32 units, 320,000 steps");
@@ -461,20 +603,48 @@ static void rows_named(void)
            "V unpacks to the row by names");
 }
 
-/* 32 times V: the longest file and the longest reply */
-static void longest_named(void)
+/* a file of 32 times V's unit: the longest reply */
+static void longest_reply(const uint8_t *file, size_t length)
 {
-    static uint32_t rows[SHAHFUREEL_ROWS_NUMBERS];
-    uint8_t file[SHAHFUREEL_FILE_BYTES_MAX];
     uint8_t reply[SHAHFUREEL_REPLY_BYTES];
-    for (uint32_t i = 0; i < SHAHFUREEL_UNITS_MAX; i++)
-        build_v(rows + SHAHFUREEL_ROW_NUMBERS * i);
-    pack_gives(0, rows, sizeof rows / sizeof rows[0], 0, BYTES - 1, SHAHFUREEL_FILE_BUFFER_TOO_SHORT, "1,479 bytes are 13");
-    expect(shahfureel_pack(0, rows, sizeof rows / sizeof rows[0], file, sizeof file) == sizeof file, "names", "1,480 bytes");
-    expect(shahfureel_dispatch(file, sizeof file, reply, sizeof reply) == sizeof reply, "names", "a reply of 92 bytes");
+    expect(shahfureel_dispatch(file, length, reply, sizeof reply) == sizeof reply, "names", "a reply of 92 bytes");
     expect(shahfureel_reply_count(reply) == SHAHFUREEL_UNITS_MAX, "names", "32 units");
     for (uint32_t i = 0; i < SHAHFUREEL_UNITS_MAX; i++)
         expect(shahfureel_reply_output(reply, i) == 0x102, "names", "each gives its least output");
+}
+
+/* 32 times V: the longest file of edition 1 */
+static void longest_packed(void)
+{
+    static uint32_t rows[SHAHFUREEL_ROWS_NUMBERS];
+    uint8_t file[SHAHFUREEL_FILE_BYTES_MAX];
+    for (uint32_t i = 0; i < SHAHFUREEL_UNITS_MAX; i++)
+        build_v(rows + SHAHFUREEL_ROW_NUMBERS * i);
+    pack_gives(0, rows, sizeof rows / sizeof rows[0], 0, 1479, SHAHFUREEL_FILE_BUFFER_TOO_SHORT, "1,479 bytes are 13");
+    expect(shahfureel_pack(0, rows, sizeof rows / sizeof rows[0], file, sizeof file) == 1480, "names", "1,480 bytes");
+    longest_reply(file, 1480);
+}
+
+/* 32 times V's body with a b1 behind its first 26 bytes: the longest file of edition 2 */
+static void longest_of_edition_2(void)
+{
+    enum { FRONT = 8 + 32 * 4, BODY = 46 };
+    static uint8_t file[BYTES + 1];
+    put(file, 2, 2);
+    put(file + 2, 32, 2);
+    for (uint32_t i = 0; i < 32; i++) {
+        uint8_t *body = file + FRONT + BODY * i;
+        put(file + 8 + 4 * i, FRONT + BODY * i, 2);
+        put(file + 10 + 4 * i, BODY, 2);
+        memcpy(body, V + 12, 26);
+        put(body + 26, (uint32_t)(-9000000 - (int32_t)i), 4);
+        memcpy(body + 30, V + 38, 16);
+    }
+    longest_reply(file, BYTES);
+    dispatch_gives(file, BYTES - 1, 0, 92, SHAHFUREEL_CONTENTS_INVALID, "1,607 bytes of them are 6");
+    dispatch_gives(file, BYTES + 1, 0, 92, SHAHFUREEL_CONTENTS_INVALID, "1,609 bytes are 6");
+    file[1] = 1;
+    dispatch_gives(file, BYTES, 0, 92, SHAHFUREEL_CONTENTS_INVALID, "a body of 46 bytes is 6 in edition 1");
 }
 
 static void replies_named(void)
@@ -514,7 +684,7 @@ static uint32_t given(uint32_t demand, const uint32_t *row)
     return answer < SHAHFUREEL_LENGTH_MIN ? answer : shahfureel_reply_output(reply, 0);
 }
 
-/* what the header says of ramp limits, of refusal 11 and of refusals 7 to 10. Outputs are above 14: no refusal has their number. */
+/* what the header says of ramp limits, of refusal 11 and of refusals 7 to 10. Outputs are above 18: no refusal has their number. */
 static void advice(void)
 {
     uint32_t row[SHAHFUREEL_ROW_NUMBERS] = {0};
@@ -550,7 +720,8 @@ int main(void)
 {
     sizes_named();
     rows_named();
-    longest_named();
+    longest_packed();
+    longest_of_edition_2();
     replies_named();
     advice();
     for (size_t alignment = 1; alignment <= ALIGNMENTS; alignment++) {

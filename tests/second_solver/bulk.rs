@@ -1,6 +1,7 @@
 //! Compares the library's five C calls with the second solver on fresh cases: `bulk SECONDS [SEED]`, or `bulk --case SEED` to
 //! repeat one case. Answers and whole buffers have to be equal, with what lies before and behind the lent parts.
 
+use second_solver::branches::Reached;
 use second_solver::calls::{bytes_of, Call};
 use second_solver::generate::kinds;
 use second_solver::random::Random;
@@ -290,6 +291,7 @@ fn check_promise(call: &Call, number: u32, buffers: &mut Buffers) -> Result<bool
 #[derive(Default)]
 struct Run {
     tally: Tally,
+    reached: Reached,
     cases: u64,
     promises: u64,
 }
@@ -304,6 +306,7 @@ impl Run {
             let call = sometimes_padded(call, &mut random);
             let (number, mut buffers) = compare(&call, &mut random)?;
             self.tally.count(call.index(), refusal(&call, number));
+            self.reached.count(&call, refusal(&call, number));
             if by_brute_force && check_promise(&call, number, &mut buffers)? {
                 self.promises += 1;
             }
@@ -321,7 +324,7 @@ impl Run {
 
     fn print(&self) {
         println!("{} calls of {} cases compared, {} dispatches by brute force", self.tally.total(), self.cases, self.promises);
-        for line in self.tally.lines() {
+        for line in self.tally.lines().iter().chain(&self.reached.lines()) {
             println!("{}", line);
         }
     }
@@ -339,6 +342,7 @@ fn run_for(seconds: u64, seed: u64) {
     run.print();
     if run.cases >= 1_000 {
         run.tally.assert_complete(POSSIBLE_IN_C);
+        run.reached.assert_complete();
     }
     println!("repeat this run with seed {}", seed);
 }

@@ -1,7 +1,7 @@
 //! Damaged files, rows and views: fields at and past their limits, faults of every number, and two faults at once.
 
 use crate::calls::Call;
-use crate::generate::{any_reply, calls_of_file, pack, request, small_case, small_unit, with_demand};
+use crate::generate::{any_reply, calls_of_file, greatest_b1, pack, request, small_case, small_unit, with_demand};
 use crate::random::Random;
 use crate::solver::{self, Case, Unit};
 
@@ -9,10 +9,13 @@ use crate::solver::{self, Case, Unit};
 const LIMITS: [(usize, u32); 9] =
     [(0, 1_000_000_000), (1, 10_000_000), (2, 1_000), (3, 5_000), (5, 10_000), (6, 10_000), (7, 10_000), (8, 10_000), (9, 1)];
 
+const B: usize = 3;
 const LEAST: usize = 4;
 const GREATEST: usize = 5;
 const ZONE_COUNT: usize = 10;
 const FIRST_EDGE: usize = 11;
+/// No row has it: the index of b1 follows those of a row.
+const B1: usize = 19;
 
 // ---- one number of a file or of rows
 
@@ -24,13 +27,15 @@ fn get(file: &[u8], at: usize) -> u32 {
     u32::from(file[at]) * 256 + u32::from(file[at + 1])
 }
 
-/// Sets the number of a body that has this index in a row.
+/// Sets the number of a body that has this index in a row, or b1.
 fn set_in_body(file: &mut [u8], unit: usize, index: usize, value: u32) {
     let body = get(file, 8 + 4 * unit) as usize;
-    if index < 2 {
-        set(file, body + 4 * index, 4, value);
-    } else {
-        set(file, body + 4 + 2 * index, 2, value);
+    let added = if get(file, 0) == 2 { 4 } else { 0 };
+    match index {
+        0 | 1 => set(file, body + 4 * index, 4, value),
+        B1 => set(file, body + 26, 4, value),
+        FIRST_EDGE.. => set(file, body + 4 + 2 * index + added, 2, value),
+        _ => set(file, body + 4 + 2 * index, 2, value),
     }
 }
 
@@ -63,14 +68,14 @@ fn pack_rows(case: &Case, rows: Vec<u32>) -> Call {
 }
 
 /// Three small units, each with a zone.
-fn base(random: &mut Random) -> Case {
-    let units = (0..3).map(|_| zoned_unit(random)).collect();
-    with_demand(units, random)
+fn base(random: &mut Random, edition: i128) -> Case {
+    let units = (0..3).map(|_| zoned_unit(random, edition)).collect();
+    with_demand(units, edition, random)
 }
 
-fn zoned_unit(random: &mut Random) -> Unit {
+fn zoned_unit(random: &mut Random, edition: i128) -> Unit {
     loop {
-        let unit = small_unit(random);
+        let unit = small_unit(random, edition);
         if !unit.zones.is_empty() {
             return unit;
         }
@@ -83,14 +88,16 @@ fn unit_of_most_zones(case: &Case) -> usize {
 
 // ---- every field
 
-/// Each number of a unit just at and just past its limits.
-pub fn fields_at_limits(random: &mut Random) -> Vec<Call> {
-    let case = base(random);
+/// Each number of a row just at and just past its limits.
+pub fn fields_at_limits(random: &mut Random, edition: i128) -> Vec<Call> {
+    let case = base(random, edition);
     let unit = unit_of_most_zones(&case);
     let mut calls = Vec::new();
     for change in at_limits(&case, unit) {
         calls.extend(calls_of_file(&changed_file(&case, &[change]), random));
-        calls.push(pack_rows(&case, changed_rows(&case, &[change])));
+        if edition == 1 {
+            calls.push(pack_rows(&case, changed_rows(&case, &[change])));
+        }
     }
     calls
 }
@@ -117,11 +124,35 @@ fn at_limits(case: &Case, unit: usize) -> Vec<Change> {
     changes
 }
 
+/// b1 at its limits, past them and far past them, and the most that b and b1 may be together.
+pub fn losses_at_limits(random: &mut Random) -> Vec<Call> {
+    let case = base(random, 2);
+    let unit = random.below(3);
+    let mut calls = Vec::new();
+    for (b, b1) in losses_about_limits() {
+        let changes = [Change { unit, index: B, value: b }, Change { unit, index: B1, value: b1 as u32 }];
+        calls.extend(calls_of_file(&changed_file(&case, &changes), random));
+    }
+    calls
+}
+
+fn losses_about_limits() -> Vec<(u32, i32)> {
+    let mut losses: Vec<(u32, i32)> = Vec::new();
+    for b in [0, 1, 4_500] {
+        losses.extend([-10_000_000, -10_000_001, 10_000_000, 10_000_001, i32::MIN, i32::MAX].map(|b1| (b, b1)));
+    }
+    for b in [4_501, 4_999, 5_000] {
+        let most = greatest_b1(i128::from(b)) as i32;
+        losses.extend([-10_000_000, -10_000_001, -1, 0, most, most + 1, 10_000_000, i32::MIN, i32::MAX].map(|b1| (b, b1)));
+    }
+    losses
+}
+
 /// Edition, count and demand at and past their limits.
-pub fn head_at_limits(random: &mut Random) -> Vec<Call> {
-    let file = solver::encode(&small_case(random));
+pub fn head_at_limits(random: &mut Random, edition: i128) -> Vec<Call> {
+    let file = solver::encode(&small_case(random, edition));
     let fields: [(usize, usize, &[u32]); 3] = [
-        (0, 2, &[0, 2, 256, 257, 65_535]),
+        (0, 2, &[0, 1, 2, 3, 256, 257, 258, 512, 65_535]),
         (2, 2, &[0, 1, 32, 33, 256, 65_535]),
         (4, 4, &[320_000, 320_001, 16_777_216, u32::MAX]),
     ];
@@ -138,13 +169,13 @@ pub fn head_at_limits(random: &mut Random) -> Vec<Call> {
 
 // ---- lengths and contents
 
-pub fn cut_and_padded(random: &mut Random) -> Vec<Call> {
-    let case = small_case(random);
+pub fn cut_and_padded(random: &mut Random, edition: i128) -> Vec<Call> {
+    let case = small_case(random, edition);
     let file = solver::encode(&case);
     let contents_end = 8 + 4 * case.units.len();
     let mut lengths = vec![0, 1, 7, 8, contents_end - 1, contents_end, file.len() - 1, file.len() - 2];
     lengths.push(random.below(file.len()));
-    lengths.extend([file.len() + 1, file.len() + 26, 1_480, 1_481, 2_560]);
+    lengths.extend([file.len() + 1, file.len() + 26, 1_480, 1_481, 1_608, 1_609, 2_560]);
     let mut calls = Vec::new();
     for length in lengths {
         let mut changed = file.clone();
@@ -155,15 +186,15 @@ pub fn cut_and_padded(random: &mut Random) -> Vec<Call> {
 }
 
 /// Entries that name other places than the bodies', and bodies of other lengths than their entries'.
-pub fn wrong_contents(random: &mut Random) -> Vec<Call> {
-    let case = base(random);
+pub fn wrong_contents(random: &mut Random, edition: i128) -> Vec<Call> {
+    let case = base(random, edition);
     let unit = random.below(3);
     let file = solver::encode(&case);
     let entry = 8 + 4 * unit;
     let (offset, length) = (get(&file, entry), get(&file, entry + 2));
     let mut changes: Vec<(usize, u32)> =
         [0, 8, offset - 1, offset + 1, offset * 256, 65_535].map(|value| (entry, value)).to_vec();
-    changes.extend([0, 22, 26, 27, 30, 34, 38, 42, 46, length - 1, length + 4, 65_535].map(|value| (entry + 2, value)));
+    changes.extend([0, 22, 26, 27, 30, 34, 38, 42, 46, 50, length - 1, length + 4, 65_535].map(|value| (entry + 2, value)));
     let mut files: Vec<Vec<u8>> = Vec::new();
     for (at, value) in changes {
         let mut changed = file.clone();
@@ -172,7 +203,7 @@ pub fn wrong_contents(random: &mut Random) -> Vec<Call> {
     }
     files.extend([swapped_entries(&file), shifted_end_of_first_body(&file), unit_more_than_bodies(&file)]);
     files.push(with_gap_before(&file, unit));
-    files.extend([22, 25, 27, 28, 46].map(|length| with_last_body_of(&file, length)));
+    files.extend([22, 25, 26, 27, 28, 30, 46, 50].map(|length| with_last_body_of(&file, length)));
     files.iter().flat_map(|file| calls_of_file(file, random)).collect()
 }
 
@@ -225,8 +256,8 @@ fn unit_more_than_bodies(file: &[u8]) -> Vec<u8> {
 // ---- bytes
 
 /// A field with its bytes swapped, all edges of a unit with swapped bytes, and some changed bytes.
-pub fn swapped_and_changed_bytes(random: &mut Random) -> Vec<Call> {
-    let case = base(random);
+pub fn swapped_and_changed_bytes(random: &mut Random, edition: i128) -> Vec<Call> {
+    let case = base(random, edition);
     let file = solver::encode(&case);
     let mut field_swapped = file.clone();
     let at = 2 * random.below(file.len() / 2);
@@ -253,26 +284,43 @@ fn edges_swapped(case: &Case, unit: usize) -> Vec<u8> {
 
 // ---- two faults
 
-/// A change of a unit that is refused with this number, 7 to 10.
-fn fault(number: u32, unit: usize, random: &mut Random) -> Change {
+/// The numbers with which a unit is refused, in the order of checking. No unit of edition 1 is refused with 18.
+fn numbers_of_units(edition: i128) -> &'static [u32] {
+    if edition == 2 {
+        &[7, 8, 18, 9, 10]
+    } else {
+        &[7, 8, 9, 10]
+    }
+}
+
+/// Changes of a unit that is then refused with this number, one of `numbers_of_units`.
+fn fault(number: u32, unit: usize, random: &mut Random) -> Vec<Change> {
     let past = |limits: &[(usize, u32)], random: &mut Random| {
         let (index, limit) = random.pick(limits);
         (index, limit + 1)
     };
-    let (index, value) = match number {
-        7 => (ZONE_COUNT, 5),
-        8 => past(&LIMITS[..4], random),
-        9 => random.pick(&[(LEAST, 0), (LEAST, 10_000), (GREATEST, 0), (GREATEST, 10_001), (FIRST_EDGE, 0)]),
-        _ => past(&LIMITS[5..], random),
+    let values = match number {
+        7 => vec![(ZONE_COUNT, 5)],
+        8 => vec![past(&LIMITS[..4], random)],
+        18 => excessive_losses(random),
+        9 => vec![random.pick(&[(LEAST, 0), (LEAST, 10_000), (GREATEST, 0), (GREATEST, 10_001), (FIRST_EDGE, 0)])],
+        _ => vec![past(&LIMITS[5..], random)],
     };
-    Change { unit, index, value }
+    values.into_iter().map(|(index, value)| Change { unit, index, value }).collect()
+}
+
+/// A b1 below its range, one above it, or one that is too great beside its b alone.
+fn excessive_losses(random: &mut Random) -> Vec<(usize, u32)> {
+    let b = random.between(4_501, 5_000);
+    let beside_b = vec![(B, b as u32), (B1, greatest_b1(b) as u32 + 1)];
+    random.pick(&[vec![(B1, -10_000_001_i32 as u32)], vec![(B1, 10_000_001)], beside_b])
 }
 
 /// Damages a file so that it is refused with this number, 2 to 6.
 fn damage_file(file: &mut Vec<u8>, number: u32, random: &mut Random) {
     match number {
         2 => file.truncate(random.below(8)),
-        3 => set(file, 0, 2, random.pick(&[0, 2, 256])),
+        3 => set(file, 0, 2, random.pick(&[0, 3, 256])),
         4 => set(file, 2, 2, random.pick(&[0, 33, 65_535])),
         5 => set(file, 4, 4, random.pick(&[320_001, u32::MAX])),
         _ => file.push(0),
@@ -280,22 +328,23 @@ fn damage_file(file: &mut Vec<u8>, number: u32, random: &mut Random) {
 }
 
 /// Two faults of different places, of one unit, and of two units in either order.
-pub fn two_faults(random: &mut Random) -> Vec<Call> {
-    let case = base(random);
+pub fn two_faults(random: &mut Random, edition: i128) -> Vec<Call> {
+    let case = base(random, edition);
+    let numbers = numbers_of_units(edition);
     let mut calls = Vec::new();
     for first in 2..=6 {
-        for second in first + 1..=10 {
+        for second in (first + 1..=6).chain(numbers.iter().copied()) {
             let mut file = damaged_by(&case, second, random);
             damage_file(&mut file, first, random);
-            calls.push(any_call_of_file(&file, random));
+            calls.push(any_call_of_file(&file, edition, random));
         }
     }
-    for first in 7..=10 {
-        for second in 7..=10 {
+    for (place, first) in numbers.iter().enumerate() {
+        for (other_place, second) in numbers.iter().enumerate() {
             let (unit, other) = random.pick(&[(0, 1), (0, 2), (1, 2)]);
-            calls.extend(two_changes(&case, (first, unit), (second, other), random));
-            if first < second {
-                calls.extend(two_changes(&case, (first, unit), (second, unit), random));
+            calls.extend(two_changes(&case, (*first, unit), (*second, other), random));
+            if place < other_place {
+                calls.extend(two_changes(&case, (*first, unit), (*second, unit), random));
             }
         }
     }
@@ -304,29 +353,53 @@ pub fn two_faults(random: &mut Random) -> Vec<Call> {
 
 fn damaged_by(case: &Case, number: u32, random: &mut Random) -> Vec<u8> {
     if number >= 7 {
-        return changed_file(case, &[fault(number, random.below(3), random)]);
+        return changed_file(case, &fault(number, random.below(3), random));
     }
     let mut file = solver::encode(case);
     damage_file(&mut file, number, random);
     file
 }
 
-/// A file and rows with two faults, each a number and a unit.
+/// A file, and in edition 1 rows, with two faults, each a number and a unit. Where both set one number of a unit, the first has it.
 fn two_changes(case: &Case, first: (u32, usize), second: (u32, usize), random: &mut Random) -> Vec<Call> {
-    let changes = [fault(first.0, first.1, random), fault(second.0, second.1, random)];
-    let call = any_call_of_file(&changed_file(case, &changes), random);
-    vec![call, pack_rows(case, changed_rows(case, &changes))]
+    let of_first = fault(first.0, first.1, random);
+    let changes = [fault(second.0, second.1, random), of_first].concat();
+    let mut calls = vec![any_call_of_file(&changed_file(case, &changes), case.edition, random)];
+    if case.edition == 1 {
+        calls.push(pack_rows(case, changed_rows(case, &changes)));
+    }
+    calls
 }
 
-fn any_call_of_file(file: &[u8], random: &mut Random) -> Call {
+/// A call on a file. No unpacking where it is of edition 2: that looks at nothing behind the edition.
+fn any_call_of_file(file: &[u8], edition: i128, random: &mut Random) -> Call {
     let calls = calls_of_file(file, random);
-    random.pick(&calls)
+    let takers = if edition == 2 { &calls[..2] } else { &calls[..] };
+    random.pick(takers)
+}
+
+/// Unpacking of each edition, and of numbers that are none: of a whole file, of files with a fault behind the edition or before
+/// it, with enough room and with too little.
+pub fn unpacked_editions(random: &mut Random) -> Vec<Call> {
+    let mut calls = Vec::new();
+    for edition in [0, 1, 2, 3, 512] {
+        let case = Case { edition, ..base(random, 2) };
+        let mut files = vec![solver::encode(&case)];
+        for number in [2, 4, 5, 6].iter().chain(numbers_of_units(edition)) {
+            files.push(damaged_by(&case, *number, random));
+        }
+        for file in files {
+            calls.push(Call::Unpack { file: file.clone(), room: 608 });
+            calls.push(Call::Unpack { file, room: 607 });
+        }
+    }
+    calls
 }
 
 // ---- rows
 
 pub fn damaged_rows(random: &mut Random) -> Vec<Call> {
-    let case = base(random);
+    let case = base(random, 1);
     let mut calls = wrong_row_counts(&case, random);
     calls.extend(beyond_the_fields(&case, random));
     calls.extend(unused_edges(&case, random));
@@ -392,7 +465,7 @@ fn two_faults_of_packing(case: &Case, random: &mut Random) -> Vec<Call> {
         Call::Pack { demand: 320_000, rows, room: 1_600 },
     ];
     for number in 7..=10 {
-        let wrong = changed_rows(case, &[fault(number, random.below(3), random)]);
+        let wrong = changed_rows(case, &fault(number, random.below(3), random));
         calls.push(Call::Pack { demand: 320_001, rows: wrong.clone(), room: 1_600 });
         calls.push(Call::Pack { demand, rows: wrong, room: 0 });
     }

@@ -6,6 +6,9 @@ use crate::random::Random;
 use crate::solver::{self, Case, Unit};
 use crate::vectors;
 
+const GREATEST_B1: i128 = 10_000_000;
+const GREATEST_DEMAND: i128 = 320_000;
+
 #[derive(Clone)]
 pub struct Kind {
     pub name: &'static str,
@@ -27,37 +30,67 @@ pub fn accepted_kinds() -> Vec<Kind> {
     vec![
         kind("table", 1, table),
         kind("further-vectors", 1, further_vectors),
-        kind("small", 14, small),
-        kind("full-size", 6, full_size),
-        kind("equal-units", 4, equal_units),
-        kind("tied-outputs", 5, tied_outputs),
-        kind("free-outputs", 3, free_outputs),
-        kind("low-prices", 5, low_prices),
-        kind("standing-or-running", 6, standing_or_running),
-        kind("single-point-windows", 6, single_point_windows),
-        kind("zones-at-edges", 6, zones_at_edges),
-        kind("four-zones", 3, four_zones),
-        kind("ramps-that-cut-zones", 8, ramps_that_cut_zones),
-        kind("zero-coefficients", 2, zero_coefficients),
-        kind("greatest-coefficients", 3, greatest_coefficients),
-        kind("demand-at-capacity", 3, demand_at_capacity),
-        kind("large-losses", 6, large_losses),
-        kind("exact-demand", 7, exact_demand),
-        kind("largest", 1, largest),
+        kind("small", 14, |random| small(random, 1)),
+        kind("full-size", 6, |random| full_size(random, 1)),
+        kind("equal-units", 4, |random| equal_units(random, 1)),
+        kind("tied-outputs", 5, |random| tied_outputs(random, 1)),
+        kind("free-outputs", 3, |random| free_outputs(random, 1)),
+        kind("low-prices", 5, |random| low_prices(random, 1)),
+        kind("standing-or-running", 6, |random| standing_or_running(random, 1)),
+        kind("single-point-windows", 6, |random| single_point_windows(random, 1)),
+        kind("zones-at-edges", 6, |random| zones_at_edges(random, 1)),
+        kind("four-zones", 3, |random| four_zones(random, 1)),
+        kind("ramps-that-cut-zones", 8, |random| ramps_that_cut_zones(random, 1)),
+        kind("zero-coefficients", 2, |random| zero_coefficients(random, 1)),
+        kind("greatest-coefficients", 3, |random| greatest_coefficients(random, 1)),
+        kind("demand-at-capacity", 3, |random| demand_at_capacity(random, 1)),
+        kind("large-losses", 6, |random| large_losses(random, 1)),
+        kind("exact-demand", 7, |random| exact_demand(random, 1)),
+        kind("largest", 1, |random| largest(random, 1)),
+        kind("edition-2-vectors", 1, edition_2_vectors),
+        kind("edition-2-small", 14, |random| small(random, 2)),
+        kind("edition-2-every-count", 1, |random| every_count(random, 2)),
+        kind("edition-2-full-size", 4, |random| full_size(random, 2)),
+        kind("edition-2-equal-units", 2, |random| equal_units(random, 2)),
+        kind("edition-2-tied-outputs", 5, |random| tied_outputs(random, 2)),
+        kind("edition-2-free-outputs", 2, |random| free_outputs(random, 2)),
+        kind("edition-2-low-prices", 3, |random| low_prices(random, 2)),
+        kind("edition-2-standing-or-running", 4, |random| standing_or_running(random, 2)),
+        kind("edition-2-single-point-windows", 3, |random| single_point_windows(random, 2)),
+        kind("edition-2-zones-at-edges", 4, |random| zones_at_edges(random, 2)),
+        kind("edition-2-four-zones", 2, |random| four_zones(random, 2)),
+        kind("edition-2-ramps-that-cut-zones", 4, |random| ramps_that_cut_zones(random, 2)),
+        kind("edition-2-zero-coefficients", 2, |random| zero_coefficients(random, 2)),
+        kind("edition-2-greatest-coefficients", 3, |random| greatest_coefficients(random, 2)),
+        kind("edition-2-demand-at-capacity", 3, |random| demand_at_capacity(random, 2)),
+        kind("edition-2-large-losses", 6, |random| large_losses(random, 2)),
+        kind("edition-2-exact-demand", 7, |random| exact_demand(random, 2)),
+        kind("edition-2-largest", 1, |random| largest(random, 2)),
+        kind("both-editions", 3, both_editions),
     ]
 }
 
 fn damaged_kinds() -> Vec<Kind> {
     vec![
-        kind("fields-at-limits", 1, damage::fields_at_limits),
-        kind("head-at-limits", 1, damage::head_at_limits),
-        kind("cut-and-padded", 1, damage::cut_and_padded),
-        kind("wrong-contents", 1, damage::wrong_contents),
-        kind("swapped-and-changed-bytes", 4, damage::swapped_and_changed_bytes),
-        kind("two-faults", 1, damage::two_faults),
+        kind("fields-at-limits", 1, |random| damage::fields_at_limits(random, 1)),
+        kind("head-at-limits", 1, |random| damage::head_at_limits(random, 1)),
+        kind("cut-and-padded", 1, |random| damage::cut_and_padded(random, 1)),
+        kind("wrong-contents", 1, |random| damage::wrong_contents(random, 1)),
+        kind("swapped-and-changed-bytes", 4, |random| damage::swapped_and_changed_bytes(random, 1)),
+        kind("two-faults", 1, |random| damage::two_faults(random, 1)),
+        kind("edition-2-fields-at-limits", 1, |random| damage::fields_at_limits(random, 2)),
+        kind("edition-2-head-at-limits", 1, |random| damage::head_at_limits(random, 2)),
+        kind("edition-2-cut-and-padded", 1, |random| damage::cut_and_padded(random, 2)),
+        kind("edition-2-wrong-contents", 1, |random| damage::wrong_contents(random, 2)),
+        kind("edition-2-swapped-and-changed-bytes", 4, |random| damage::swapped_and_changed_bytes(random, 2)),
+        kind("edition-2-two-faults", 1, |random| damage::two_faults(random, 2)),
+        kind("losses-at-limits", 1, damage::losses_at_limits),
+        kind("unpacked-editions", 1, damage::unpacked_editions),
         kind("damaged-rows", 1, damage::damaged_rows),
-        kind("short-buffers", 1, short_buffers),
-        kind("multipliers", 1, multipliers),
+        kind("short-buffers", 1, |random| short_buffers(random, 1)),
+        kind("edition-2-short-buffers", 1, |random| short_buffers(random, 2)),
+        kind("multipliers", 1, |random| multipliers(random, 1)),
+        kind("edition-2-multipliers", 1, |random| multipliers(random, 2)),
     ]
 }
 
@@ -71,12 +104,14 @@ fn view_kinds() -> Vec<Kind> {
 
 // ---- calls
 
-/// All calls for a case: dispatch, two pricings, unpacking, and packing of its rows.
+/// All calls for a case: dispatch, two pricings, unpacking, and in edition 1, which packing writes, packing of its rows.
 pub fn calls_of_case(case: &Case, random: &mut Random) -> Vec<Call> {
     let file = solver::encode(case);
     let mut calls = calls_of_file(&file, random);
     calls.push(Call::Price { multiplier: near_a_tie(case, random), file });
-    calls.push(pack(case, random));
+    if case.edition == 1 {
+        calls.push(pack(case, random));
+    }
     calls
 }
 
@@ -107,7 +142,7 @@ fn near_a_tie(case: &Case, random: &mut Random) -> u32 {
     spans.extend(&unit.zones);
     let (lower, upper) = random.pick(&spans);
     let both = random.between(2 * lower, 2 * upper);
-    let net = solver::NET_OF_A_STEP - unit.b * both;
+    let net = solver::NET_OF_A_STEP - unit.b1 - unit.b * both;
     let price = solver::COST_SCALE * (unit.c1 + unit.c2 * both) / net.max(1) + random.between(-1, 1);
     price.clamp(0, solver::GREATEST_MULTIPLIER) as u32
 }
@@ -115,7 +150,7 @@ fn near_a_tie(case: &Case, random: &mut Random) -> u32 {
 // ---- units and demands
 
 /// A unit with so many zones, whose limits and edges rise from `start` by 1 to `step` each.
-fn unit(random: &mut Random, start: i128, step: i128, zones: usize) -> Unit {
+fn unit(random: &mut Random, edition: i128, start: i128, step: i128, zones: usize) -> Unit {
     let mut limits = vec![start + random.between(0, step - 1)];
     while limits.len() < 2 + 2 * zones {
         limits.push(limits[limits.len() - 1] + random.between(1, step));
@@ -129,6 +164,9 @@ fn unit(random: &mut Random, start: i128, step: i128, zones: usize) -> Unit {
         ..vectors::u()
     };
     set_coefficients(&mut unit, random);
+    if edition == 2 {
+        unit.b1 = any_b1(unit.b, random);
+    }
     unit
 }
 
@@ -143,19 +181,30 @@ fn set_coefficients(unit: &mut Unit, random: &mut Random) {
     unit.b = random.pick(&[0, 0, 1, any_b, any_b, 5_000]);
 }
 
+/// The greatest b1 that is accepted beside a b.
+pub fn greatest_b1(b: i128) -> i128 {
+    GREATEST_B1.min(99_999_999 - 19_999 * b)
+}
+
+/// An accepted b1 beside a b: of either sign, small or any, none, and at its ends.
+fn any_b1(b: i128, random: &mut Random) -> i128 {
+    let (small, any) = (random.between(-2_000, 2_000), random.between(-GREATEST_B1, GREATEST_B1));
+    random.pick(&[0, small, any, any, any, -any.abs(), -GREATEST_B1, GREATEST_B1]).min(greatest_b1(b))
+}
+
 /// A unit of few permitted outputs, at low outputs or just below 10,000.
-pub fn small_unit(random: &mut Random) -> Unit {
+pub fn small_unit(random: &mut Random, edition: i128) -> Unit {
     let zones = random.pick(&[0, 1, 1, 2, 2, 3, 4]);
     let step = random.pick(&[1, 2, 3, 4]);
     let span = (2 + 2 * zones as i128) * step;
     let start = random.pick(&[1, 1, 1, 10_001 - span]);
-    unit(random, start, step, zones)
+    unit(random, edition, start, step, zones)
 }
 
 /// A unit whose outputs reach over the whole range.
-fn large_unit(random: &mut Random) -> Unit {
+fn large_unit(random: &mut Random, edition: i128) -> Unit {
     let zones = random.pick(&[0, 1, 2, 3, 4, 4, 4]);
-    unit(random, 1, 10_000 / (2 + 2 * zones as i128), zones)
+    unit(random, edition, 1, 10_000 / (2 + 2 * zones as i128), zones)
 }
 
 /// A point where something changes: a limit or an edge, the one before or after it, or any output.
@@ -201,21 +250,21 @@ fn capacity(units: &[Unit]) -> i128 {
     units.iter().map(greatest_net).sum::<i128>() / solver::NET_OF_A_STEP
 }
 
-pub fn with_demand(units: Vec<Unit>, random: &mut Random) -> Case {
+pub fn with_demand(units: Vec<Unit>, edition: i128, random: &mut Random) -> Case {
     let capacity = capacity(&units);
     let any = random.between(0, capacity);
     let demand = random.pick(&[0, 1, any, any, any, any, any, any, capacity - 1, capacity, capacity + 1]);
-    Case { demand: demand.clamp(0, 320_000), units }
+    Case { edition, demand: demand.clamp(0, GREATEST_DEMAND), units }
 }
 
 /// A case of one to four small units, some with ramps.
-pub fn small_case(random: &mut Random) -> Case {
+pub fn small_case(random: &mut Random, edition: i128) -> Case {
     let count = random.pick(&[1, 2, 2, 3, 3, 4]);
-    let mut units: Vec<Unit> = (0..count).map(|_| small_unit(random)).collect();
+    let mut units: Vec<Unit> = (0..count).map(|_| small_unit(random, edition)).collect();
     for unit in &mut units {
         maybe_set_window(unit, random);
     }
-    with_demand(units, random)
+    with_demand(units, edition, random)
 }
 
 // ---- kinds of accepted files
@@ -233,45 +282,68 @@ fn further_vectors(random: &mut Random) -> Vec<Call> {
     vectors::further().iter().flat_map(|vector| calls_of_case(&vector.case, random)).collect()
 }
 
-fn small(random: &mut Random) -> Vec<Call> {
-    let case = small_case(random);
+/// The stated cases of edition 2, and their stated pricings.
+fn edition_2_vectors(random: &mut Random) -> Vec<Call> {
+    let mut calls: Vec<Call> = vectors::edition_2().iter().flat_map(|vector| calls_of_case(&vector.case, random)).collect();
+    for (case, multiplier, _) in vectors::pricings_of_edition_2() {
+        calls.push(Call::Price { file: solver::encode(&case), multiplier });
+    }
+    calls
+}
+
+fn small(random: &mut Random, edition: i128) -> Vec<Call> {
+    let case = small_case(random, edition);
     calls_of_case(&case, random)
 }
 
-fn full_size(random: &mut Random) -> Vec<Call> {
+/// Cases of 1 to 32 small units.
+fn every_count(random: &mut Random, edition: i128) -> Vec<Call> {
+    let mut calls = Vec::new();
+    for count in 1..=32 {
+        let units: Vec<Unit> = (0..count).map(|_| Unit { mark: 0, ..small_unit(random, edition) }).collect();
+        let file = solver::encode(&with_demand(units, edition, random));
+        calls.push(Call::Dispatch { file: file.clone(), room: 92 });
+        calls.push(Call::Price { file, multiplier: any_multiplier(random) });
+    }
+    calls
+}
+
+fn full_size(random: &mut Random, edition: i128) -> Vec<Call> {
     let count = random.pick(&[17, 31, 32, 32]);
-    let mut units: Vec<Unit> = (0..count).map(|_| large_unit(random)).collect();
+    let mut units: Vec<Unit> = (0..count).map(|_| large_unit(random, edition)).collect();
     for unit in units.iter_mut().step_by(3) {
         maybe_set_window(unit, random);
         unit.mark = 0;
     }
-    let case = with_demand(units, random);
+    let case = with_demand(units, edition, random);
     calls_of_case(&case, random)
 }
 
-fn equal_units(random: &mut Random) -> Vec<Call> {
-    let unit = small_unit(random);
+fn equal_units(random: &mut Random, edition: i128) -> Vec<Call> {
+    let unit = small_unit(random, edition);
     let units = vec![unit; random.pick(&[2, 3, 4])];
-    let case = with_demand(units, random);
+    let case = with_demand(units, edition, random);
     calls_of_case(&case, random)
 }
 
 /// Two outputs that tie exactly at a multiplier, with only forbidden outputs or none between them.
-fn tied_outputs(random: &mut Random) -> Vec<Call> {
-    let mut unit = Unit { mark: 1, ..small_unit(random) };
+fn tied_outputs(random: &mut Random, edition: i128) -> Vec<Call> {
+    let mut unit = Unit { mark: 1, ..small_unit(random, edition) };
     let (lower, upper) = match unit.zones.first() {
         Some(zone) => *zone,
         None => (unit.least, unit.least + 1),
     };
-    // 100,000 × (c1 + c2 × (p + q)) = m × (100,000,000 − b × (p + q)) is solved for c1, in whole numbers as m × b is a
-    // multiple of 100,000
+    // 100,000 × (c1 + c2 × (p + q)) = m × (100,000,000 − b1 − b × (p + q)) is solved for c1, in whole numbers as m × b and b1 are
+    // multiples of 100,000
     let multiplier = if random.chance(2) { 10_000 } else { random.between(1, 10_000) };
     unit.b = if multiplier == 10_000 { 10 * random.between(0, 20) } else { 0 };
-    let price = 1_000 * multiplier - multiplier * unit.b / 100_000 * (lower + upper);
+    unit.b1 = if edition == 2 { hundred_thousands(if multiplier > 9_000 { 0 } else { -100 }, random) } else { 0 };
+    let step_price = multiplier * (solver::NET_OF_A_STEP - unit.b1) / solver::COST_SCALE;
+    let price = step_price - multiplier * unit.b / solver::COST_SCALE * (lower + upper);
     unit.c2 = random.between(0, 1_000).min(price / (lower + upper));
     unit.c1 = price - unit.c2 * (lower + upper);
-    let file = solver::encode(&Case { demand: capacity(&[unit.clone()]), units: vec![unit.clone()] });
-    let case = with_demand(vec![unit, small_unit(random)], random);
+    let file = solver::encode(&Case { edition, demand: capacity(&[unit.clone()]), units: vec![unit.clone()] });
+    let case = with_demand(vec![unit, small_unit(random, edition)], edition, random);
     let mut calls = calls_of_case(&case, random);
     for multiplier in [multiplier - 1, multiplier, multiplier + 1] {
         calls.push(Call::Price { file: file.clone(), multiplier: multiplier as u32 });
@@ -279,32 +351,36 @@ fn tied_outputs(random: &mut Random) -> Vec<Call> {
     calls
 }
 
+/// A b1 of whole hundred thousands, from so many of them to a hundred.
+fn hundred_thousands(least: i128, random: &mut Random) -> i128 {
+    100_000 * random.between(least, 100)
+}
+
 /// Units whose every output has the same cost, among others.
-fn free_outputs(random: &mut Random) -> Vec<Call> {
-    let mut units: Vec<Unit> = (0..3).map(|_| small_unit(random)).collect();
+fn free_outputs(random: &mut Random, edition: i128) -> Vec<Call> {
+    let mut units: Vec<Unit> = (0..3).map(|_| small_unit(random, edition)).collect();
     for unit in units.iter_mut().take(2) {
         unit.c1 = 0;
         unit.c2 = 0;
     }
-    let case = with_demand(units, random);
+    let case = with_demand(units, edition, random);
     calls_of_case(&case, random)
 }
 
 /// Units that may stand, with constant costs of the size of what else they burn; the price at which one of them is as well off
 /// standing as running, and for one of them just so.
-fn standing_or_running(random: &mut Random) -> Vec<Call> {
-    let mut units: Vec<Unit> = (0..3).map(|_| small_unit(random)).collect();
+fn standing_or_running(random: &mut Random, edition: i128) -> Vec<Call> {
+    let mut units: Vec<Unit> = (0..3).map(|_| small_unit(random, edition)).collect();
     for unit in &mut units {
         unit.mark = 0;
         let burnt = solver::cost(&Unit { c0: 0, ..unit.clone() }, unit.greatest);
         unit.c0 = random.between(0, 2 * burnt + 1).min(1_000_000_000);
     }
     let tied_at = random.between(1, 90);
-    units[1].c0 = 1_000 * tied_at * units[1].greatest;
-    units[1].c1 = 0;
-    units[1].c2 = 0;
-    units[1].b = 0;
-    let case = with_demand(units.clone(), random);
+    let b1 = if edition == 2 { hundred_thousands(-100, random) } else { 0 };
+    let c0 = tied_at * (solver::NET_OF_A_STEP - b1) / solver::COST_SCALE * units[1].greatest;
+    units[1] = Unit { c0, c1: 0, c2: 0, b: 0, b1, ..units[1].clone() };
+    let case = with_demand(units.clone(), edition, random);
     let mut calls = calls_of_case(&case, random);
     let unit = random.pick(&units);
     let offer = solver::offers(&unit).pop().expect("a unit that may stand has an output");
@@ -316,49 +392,49 @@ fn standing_or_running(random: &mut Random) -> Vec<Call> {
 }
 
 /// Units so cheap that they change their choices between the multipliers 0 and 1, or soon after.
-fn low_prices(random: &mut Random) -> Vec<Call> {
-    let mut units: Vec<Unit> = (0..2).map(|_| small_unit(random)).collect();
+fn low_prices(random: &mut Random, edition: i128) -> Vec<Call> {
+    let mut units: Vec<Unit> = (0..2).map(|_| small_unit(random, edition)).collect();
     for unit in &mut units {
         unit.c1 = random.pick(&[1, 10, 100, 100, 999, 1_000, 1_001]);
         unit.c2 = random.pick(&[0, 0, 1]);
         unit.mark = 0;
     }
     let half = capacity(&units) / 2;
-    let case = Case { demand: random.between(1, half.max(1)), units };
+    let case = Case { edition, demand: random.between(1, half.max(1)), units };
     calls_of_case(&case, random)
 }
 
 /// A window of one output, or one that reaches a single edge from inside a zone or from outside the limits.
-fn single_point_windows(random: &mut Random) -> Vec<Call> {
-    let mut units = vec![small_unit(random), small_unit(random)];
+fn single_point_windows(random: &mut Random, edition: i128) -> Vec<Call> {
+    let mut units = vec![small_unit(random, edition), small_unit(random, edition)];
     for unit in &mut units {
         let end = random.pick(&solver::limits_and_edges(unit));
         let distance = random.pick(&[0, 0, 1, 2]);
         let previous = (end + random.pick(&[-distance, distance])).clamp(1, 10_000);
         set_window(unit, [previous, previous, end]);
     }
-    let case = with_demand(units, random);
+    let case = with_demand(units, edition, random);
     calls_of_case(&case, random)
 }
 
 /// Zones that leave the least distance to the limits and to each other, and zones with nothing strictly inside.
-fn zones_at_edges(random: &mut Random) -> Vec<Call> {
+fn zones_at_edges(random: &mut Random, edition: i128) -> Vec<Call> {
     let count = random.pick(&[1, 2, 3, 4]);
-    let mut units: Vec<Unit> = (0..2).map(|_| unit(random, 1, 2, count)).collect();
+    let mut units: Vec<Unit> = (0..2).map(|_| unit(random, edition, 1, 2, count)).collect();
     for unit in &mut units {
         unit.least = unit.zones[0].0 - 1;
         unit.greatest = unit.zones[count - 1].1 + 1;
     }
-    let case = with_demand(units, random);
+    let case = with_demand(units, edition, random);
     calls_of_case(&case, random)
 }
 
 /// A unit of four zones, and a demand in each zone in turn.
-fn four_zones(random: &mut Random) -> Vec<Call> {
-    let unit = Unit { mark: 1, ..unit(random, 1, 6, 4) };
+fn four_zones(random: &mut Random, edition: i128) -> Vec<Call> {
+    let unit = Unit { mark: 1, ..unit(random, edition, 1, 6, 4) };
     let mut calls = Vec::new();
     for (lower, upper) in &unit.zones {
-        let case = Case { demand: random.between(*lower, *upper), units: vec![unit.clone()] };
+        let case = Case { edition, demand: random.between(*lower, *upper), units: vec![unit.clone()] };
         let file = solver::encode(&case);
         calls.push(Call::Dispatch { file: file.clone(), room: 92 });
         calls.push(Call::Price { multiplier: near_a_tie(&case, random), file });
@@ -366,47 +442,52 @@ fn four_zones(random: &mut Random) -> Vec<Call> {
     calls
 }
 
-fn ramps_that_cut_zones(random: &mut Random) -> Vec<Call> {
-    let mut units = vec![small_unit(random), small_unit(random)];
+fn ramps_that_cut_zones(random: &mut Random, edition: i128) -> Vec<Call> {
+    let mut units = vec![small_unit(random, edition), small_unit(random, edition)];
     for unit in &mut units {
         set_any_window(unit, random);
     }
-    let case = with_demand(units, random);
+    let case = with_demand(units, edition, random);
     calls_of_case(&case, random)
 }
 
-/// Units that cost and lose nothing, at a demand that they can give and at any.
-fn zero_coefficients(random: &mut Random) -> Vec<Call> {
-    let mut units = vec![small_unit(random), large_unit(random)];
+/// Units that cost nothing and, but for b1, lose nothing; at a demand that they can give and at any.
+fn zero_coefficients(random: &mut Random, edition: i128) -> Vec<Call> {
+    let mut units = vec![small_unit(random, edition), large_unit(random, edition)];
     for unit in &mut units {
         *unit = Unit { c0: 0, c1: 0, c2: 0, b: 0, ..unit.clone() };
     }
-    let given = Case { demand: random.between(0, capacity(&units)), units: units.clone() };
-    let any = with_demand(units, random);
+    let given = Case { edition, demand: random.between(0, capacity(&units)), units: units.clone() };
+    let any = with_demand(units, edition, random);
     let mut calls = calls_of_case(&given, random);
     calls.extend(calls_of_case(&any, random));
     calls
 }
 
-/// Units of the greatest outputs and costs, without losses or with the greatest; also a demand one above capacity.
-fn greatest_coefficients(random: &mut Random) -> Vec<Call> {
+/// Units of the greatest outputs and costs, with a b of 0 or the greatest and a b1 at either end; also a demand one above capacity.
+fn greatest_coefficients(random: &mut Random, edition: i128) -> Vec<Call> {
     let b = random.pick(&[0, 5_000]);
-    let unit = Unit { c0: 1_000_000_000, least: random.between(1, 9_999), ..vectors::lossy(b) };
+    let b1 = if edition == 2 { random.pick(&[-GREATEST_B1, greatest_b1(b)]) } else { 0 };
+    let unit = Unit { c0: 1_000_000_000, b1, least: random.between(1, 9_999), ..vectors::lossy(b) };
     let units = vec![unit; random.pick(&[2, 32])];
-    let capacity = capacity(&units);
-    let above = Case { demand: capacity + 1, units: units.clone() };
-    let case = if random.chance(2) { Case { demand: capacity, units } } else { with_demand(units, random) };
+    let capacity = capacity(&units).min(GREATEST_DEMAND);
+    let above = Case { edition, demand: capacity + 1, units: units.clone() };
+    let case = if random.chance(2) { Case { edition, demand: capacity, units } } else { with_demand(units, edition, random) };
     let mut calls = calls_of_case(&case, random);
     calls.push(Call::Dispatch { file: solver::encode(&above), room: 92 });
     calls
 }
 
-fn demand_at_capacity(random: &mut Random) -> Vec<Call> {
-    let units = if random.chance(4) { vec![large_unit(random), small_unit(random)] } else { small_case(random).units };
+fn demand_at_capacity(random: &mut Random, edition: i128) -> Vec<Call> {
+    let units = if random.chance(4) {
+        vec![large_unit(random, edition), small_unit(random, edition)]
+    } else {
+        small_case(random, edition).units
+    };
     let capacity = capacity(&units);
     let mut calls = Vec::new();
     for demand in [0, 1, (capacity - 1).max(0), capacity, capacity + 1] {
-        let file = solver::encode(&Case { demand, units: units.clone() });
+        let file = solver::encode(&Case { edition, demand, units: units.clone() });
         calls.push(Call::Dispatch { file: file.clone(), room: 92 });
         calls.push(Call::Price { file, multiplier: any_multiplier(random) });
     }
@@ -414,51 +495,72 @@ fn demand_at_capacity(random: &mut Random) -> Vec<Call> {
 }
 
 /// Demands so near to capacity that the choices at 65,536 may not cover.
-fn large_losses(random: &mut Random) -> Vec<Call> {
+fn large_losses(random: &mut Random, edition: i128) -> Vec<Call> {
     let mut units: Vec<Unit> = Vec::new();
     for _ in 0..random.pick(&[1, 2, 3]) {
         let b = random.between(2_600, 5_000);
-        units.push(Unit { least: 10_000 - random.between(1, 30), ..vectors::lossy(b) });
+        let b1 = if edition == 2 { any_b1(b, random) } else { 0 };
+        units.push(Unit { b1, least: 10_000 - random.between(1, 30), ..vectors::lossy(b) });
     }
     if random.chance(2) {
-        units.push(small_unit(random));
+        units.push(small_unit(random, edition));
     }
     let demand = (capacity(&units) - random.pick(&[0, 0, 1, 2, 20])).max(0);
-    calls_of_case(&Case { demand, units }, random)
+    calls_of_case(&Case { edition, demand, units }, random)
 }
 
-/// Units without losses, and a demand that the choices of some multiplier meet without surplus.
-fn exact_demand(random: &mut Random) -> Vec<Call> {
-    let mut units = small_case(random).units;
+/// Units without losses, or with a b1 of round numbers, and a demand that the choices of some multiplier meet without surplus.
+fn exact_demand(random: &mut Random, edition: i128) -> Vec<Call> {
+    let mut units = small_case(random, edition).units;
     for unit in &mut units {
         unit.b = 0;
+        unit.b1 = if edition == 2 { 5_000_000 * random.between(-2, 2) } else { 0 };
     }
-    let mut case = Case { demand: 0, units };
+    let mut case = Case { edition, demand: 0, units };
     if let Ok(problem) = solver::problem(&case) {
-        let choices = problem.evaluate(i128::from(near_a_tie(&case, random))).choices;
-        case.demand = choices.iter().map(|offer| offer.output).sum();
+        let chosen_net = |_| solver::total_net(&problem.evaluate(i128::from(near_a_tie(&case, random))).choices);
+        let whole = (0..40).map(chosen_net).find(|net| net % solver::NET_OF_A_STEP == 0);
+        case.demand = whole.unwrap_or(0) / solver::NET_OF_A_STEP;
     }
     calls_of_case(&case, random)
 }
 
-/// Files of the greatest length, 32 units of four zones up to the greatest output: free, of the greatest costs without losses and
-/// with the greatest, and of any; each at demand 0, at half of capacity, at capacity and one above.
-fn largest(random: &mut Random) -> Vec<Call> {
-    let units: Vec<Unit> = (0..32).map(|_| Unit { greatest: 10_000, mark: 0, ..unit(random, 9_800, 20, 4) }).collect();
-    let alike = |c0, c1, c2, b| -> Vec<Unit> { units.iter().map(|unit| Unit { c0, c1, c2, b, ..unit.clone() }).collect() };
-    let free = alike(0, 0, 0, 0);
-    let costly = alike(1_000_000_000, 10_000_000, 1_000, 0);
-    let lossy = alike(1_000_000_000, 10_000_000, 1_000, 5_000);
+/// Files of the greatest length, 32 units of four zones up to the greatest output: free, of the greatest costs without a b and with
+/// the greatest, and of any; in edition 2 with the least b1, with the greatest, and with any. Each at demand 0, at half of capacity,
+/// at capacity and one above.
+fn largest(random: &mut Random, edition: i128) -> Vec<Call> {
+    let units: Vec<Unit> = (0..32).map(|_| Unit { greatest: 10_000, mark: 0, ..unit(random, edition, 9_800, 20, 4) }).collect();
+    let alike =
+        |c0, c1, c2, b, b1| -> Vec<Unit> { units.iter().map(|unit| Unit { c0, c1, c2, b, b1, ..unit.clone() }).collect() };
+    let (least_b1, most_b1) = if edition == 2 { (-GREATEST_B1, GREATEST_B1) } else { (0, 0) };
+    let free = alike(0, 0, 0, 0, least_b1);
+    let costly = alike(1_000_000_000, 10_000_000, 1_000, 0, most_b1);
+    let lossy = alike(1_000_000_000, 10_000_000, 1_000, 5_000, most_b1.min(greatest_b1(5_000)));
     let mut calls = Vec::new();
     for units in [free, costly, lossy, units.clone()] {
-        let capacity = capacity(&units);
+        let capacity = capacity(&units).min(GREATEST_DEMAND);
         for demand in [0, capacity / 2, capacity, capacity + 1] {
-            let file = solver::encode(&Case { demand, units: units.clone() });
+            let file = solver::encode(&Case { edition, demand, units: units.clone() });
             calls.push(Call::Dispatch { file, room: 92 });
         }
-        let half = Case { demand: capacity / 2, units };
+        let half = Case { edition, demand: capacity / 2, units };
         calls.push(Call::Price { multiplier: near_a_tie(&half, random), file: solver::encode(&half) });
-        calls.push(pack(&half, random));
+        if edition == 1 {
+            calls.push(pack(&half, random));
+        }
+    }
+    calls
+}
+
+/// The same units in edition 1, and in edition 2 with b1 0: both are answered alike.
+fn both_editions(random: &mut Random) -> Vec<Call> {
+    let case = small_case(random, 1);
+    let multiplier = near_a_tie(&case, random);
+    let mut calls = Vec::new();
+    for edition in [1, 2] {
+        let file = solver::encode(&Case { edition, ..case.clone() });
+        calls.push(Call::Dispatch { file: file.clone(), room: 92 });
+        calls.push(Call::Price { file, multiplier });
     }
     calls
 }
@@ -466,8 +568,8 @@ fn largest(random: &mut Random) -> Vec<Call> {
 // ---- buffers and multipliers
 
 /// Buffers of no room, too short by one, and just long enough; also with a file that is refused for itself.
-fn short_buffers(random: &mut Random) -> Vec<Call> {
-    let case = small_case(random);
+fn short_buffers(random: &mut Random, edition: i128) -> Vec<Call> {
+    let case = small_case(random, edition);
     let file = solver::encode(&case);
     let mut refused_file = file.clone();
     refused_file[0] = 1;
@@ -480,16 +582,17 @@ fn short_buffers(random: &mut Random) -> Vec<Call> {
         calls.push(Call::Unpack { file: file.clone(), room });
         calls.push(Call::Unpack { file: refused_file.clone(), room });
     }
-    for room in [0, file.len() - 1, file.len(), file.len() + 1] {
+    let packed = solver::encode(&Case { edition: 1, ..case.clone() }).len();
+    for room in [0, packed - 1, packed, packed + 1] {
         calls.push(Call::Pack { demand: case.demand as u32, rows: solver::rows_of(&case), room });
     }
     calls
 }
 
 /// Multipliers at and past their limit, also with a file that is refused for itself.
-fn multipliers(random: &mut Random) -> Vec<Call> {
+fn multipliers(random: &mut Random, edition: i128) -> Vec<Call> {
     let mut calls = Vec::new();
-    let file = solver::encode(&small_case(random));
+    let file = solver::encode(&small_case(random, edition));
     for file in [file.clone(), file[..7].to_vec()] {
         let any = random.next() as u32;
         for multiplier in [0, 1, 65_535, 65_536, 65_537, u32::MAX, any % 65_537, any] {
@@ -505,8 +608,9 @@ fn multipliers(random: &mut Random) -> Vec<Call> {
 pub fn any_reply(random: &mut Random) -> Vec<u8> {
     let any = random.between(1, 32);
     let count = random.pick(&[1, 2, any, any, any, 32]);
-    let units: Vec<Unit> = (0..count).map(|_| small_unit(random)).collect();
-    let case = Case { demand: random.between(0, capacity(&units)), units };
+    let edition = random.pick(&[1, 2]);
+    let units: Vec<Unit> = (0..count).map(|_| small_unit(random, edition)).collect();
+    let case = Case { edition, demand: random.between(0, capacity(&units)), units };
     solver::encode_reply(&solver::solve(&case).expect("a demand within capacity"))
 }
 

@@ -1,5 +1,6 @@
 //! The second solver and its test cases, shared by the two programs.
 
+pub mod branches;
 pub mod calls;
 pub mod damage;
 pub mod generate;

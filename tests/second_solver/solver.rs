@@ -24,6 +24,8 @@ pub struct Unit {
     pub c1: i128,
     pub c2: i128,
     pub b: i128,
+    /// The linear loss, which a file of edition 1 does not have: 0 there.
+    pub b1: i128,
     pub least: i128,
     pub greatest: i128,
     pub previous: i128,
@@ -34,27 +36,70 @@ pub struct Unit {
     pub zones: Vec<(i128, i128)>,
 }
 
+/// What a case file holds.
 #[derive(Clone, Debug, PartialEq, Eq)]
 pub struct Case {
+    pub edition: i128,
     pub demand: i128,
     pub units: Vec<Unit>,
 }
 
-fn field(bytes: &[u8], at: usize, width: usize) -> i128 {
+/// The editions, and the lengths that a body may have in edition 1.
+pub const EDITIONS: [i128; 2] = [1, 2];
+const LENGTHS: [usize; 5] = [26, 30, 34, 38, 42];
+
+/// By how many bytes a body is longer than in edition 1: edition 2 has b1 before the edges.
+fn added(edition: i128) -> usize {
+    if edition == 2 {
+        4
+    } else {
+        0
+    }
+}
+
+pub fn field(bytes: &[u8], at: usize, width: usize) -> i128 {
     bytes[at..at + width].iter().fold(0, |value, byte| value * 256 + i128::from(*byte))
 }
 
-/// Reads a file and makes every check before step 1.
+/// A field of 32 bits in two's complement.
+pub fn signed_field(bytes: &[u8], at: usize) -> i128 {
+    let number = field(bytes, at, 4);
+    if number < 1 << 31 {
+        number
+    } else {
+        number - (1 << 32)
+    }
+}
+
+/// Reads a file of either edition and makes every check before step 1.
 pub fn decode(file: &[u8]) -> Result<Case, Refused> {
+    parts(&EDITIONS, file)?.case()
+}
+
+/// A file whose head and contents are as they must be.
+pub struct Parts<'a> {
+    pub edition: i128,
+    pub demand: i128,
+    pub bodies: Vec<&'a [u8]>,
+}
+
+/// Reads head and contents of a file that is of one of these editions.
+pub fn parts<'a>(editions: &[i128], file: &'a [u8]) -> Result<Parts<'a>, Refused> {
     refuse_if(file.len() < 8, 2)?;
-    refuse_if(field(file, 0, 2) != 1, 3)?;
+    let edition = field(file, 0, 2);
+    refuse_if(!editions.contains(&edition), 3)?;
     let count = field(file, 2, 2);
     refuse_if(!(1..=32).contains(&count), 4)?;
     let demand = field(file, 4, 4);
     check_demand(demand)?;
-    let bodies = bodies(file, count as usize)?;
-    let units = bodies.into_iter().map(decode_body).collect::<Result<_, _>>()?;
-    Ok(Case { demand, units })
+    Ok(Parts { edition, demand, bodies: bodies(file, edition, count as usize)? })
+}
+
+impl Parts<'_> {
+    fn case(&self) -> Result<Case, Refused> {
+        let units = self.bodies.iter().map(|body| decode_body(body, self.edition)).collect::<Result<_, _>>()?;
+        Ok(Case { edition: self.edition, demand: self.demand, units })
+    }
 }
 
 fn check_demand(demand: i128) -> Result<(), Refused> {
@@ -62,14 +107,15 @@ fn check_demand(demand: i128) -> Result<(), Refused> {
 }
 
 /// The parts of the file that the contents name.
-fn bodies(file: &[u8], count: usize) -> Result<Vec<&[u8]>, Refused> {
+fn bodies(file: &[u8], edition: i128, count: usize) -> Result<Vec<&[u8]>, Refused> {
+    let lengths = LENGTHS.map(|length| length + added(edition));
     let mut end = 8 + 4 * count;
     refuse_if(file.len() < end, 6)?;
     let mut bodies = Vec::new();
     for entry in 0..count {
         let offset = field(file, 8 + 4 * entry, 2) as usize;
         let length = field(file, 10 + 4 * entry, 2) as usize;
-        refuse_if(offset != end || ![26, 30, 34, 38, 42].contains(&length), 6)?;
+        refuse_if(offset != end || !lengths.contains(&length), 6)?;
         end = offset + length;
         refuse_if(file.len() < end, 6)?;
         bodies.push(&file[offset..end]);
@@ -78,22 +124,24 @@ fn bodies(file: &[u8], count: usize) -> Result<Vec<&[u8]>, Refused> {
     Ok(bodies)
 }
 
-fn decode_body(body: &[u8]) -> Result<Unit, Refused> {
-    let zone_count = field(body, 24, 2);
-    refuse_if(zone_count > 4 || 26 + 4 * zone_count != body.len() as i128, 7)?;
-    let edge = |index: usize| field(body, 26 + 2 * index, 2);
+pub fn decode_body(body: &[u8], edition: i128) -> Result<Unit, Refused> {
+    let zone_count = field(body, 24, 2) as usize;
+    let first_edge = 26 + added(edition);
+    refuse_if(zone_count > 4 || first_edge + 4 * zone_count != body.len(), 7)?;
+    let edge = |index: usize| field(body, first_edge + 2 * index, 2);
     let unit = Unit {
         c0: field(body, 0, 4),
         c1: field(body, 4, 4),
         c2: field(body, 8, 2),
         b: field(body, 10, 2),
+        b1: if edition == 2 { signed_field(body, 26) } else { 0 },
         least: field(body, 12, 2),
         greatest: field(body, 14, 2),
         previous: field(body, 16, 2),
         up: field(body, 18, 2),
         down: field(body, 20, 2),
         mark: field(body, 22, 2),
-        zones: (0..zone_count as usize).map(|zone| (edge(2 * zone), edge(2 * zone + 1))).collect(),
+        zones: (0..zone_count).map(|zone| (edge(2 * zone), edge(2 * zone + 1))).collect(),
     };
     check_unit(&unit)?;
     Ok(unit)
@@ -101,6 +149,7 @@ fn decode_body(body: &[u8]) -> Result<Unit, Refused> {
 
 fn check_unit(unit: &Unit) -> Result<(), Refused> {
     refuse_if(unit.c0 > 1_000_000_000 || unit.c1 > 10_000_000 || unit.c2 > 1_000 || unit.b > 5_000, 8)?;
+    refuse_if(unit.b1.abs() > 10_000_000 || unit.b1 + 19_999 * unit.b >= 100_000_000, 18)?;
     let limits = limits_and_edges(unit);
     let rising = limits.windows(2).all(|pair| pair[0] < pair[1]);
     refuse_if(unit.least < 1 || unit.greatest > 10_000 || !rising, 9)?;
@@ -125,29 +174,32 @@ fn put(bytes: &mut Vec<u8>, value: i128, width: usize) {
 /// Writes a case as a file, without checks: a field keeps its low bits.
 pub fn encode(case: &Case) -> Vec<u8> {
     let mut file = Vec::new();
-    put(&mut file, 1, 2);
+    put(&mut file, case.edition, 2);
     put(&mut file, case.units.len() as i128, 2);
     put(&mut file, case.demand, 4);
     let mut offset = 8 + 4 * case.units.len();
     for unit in &case.units {
-        let length = 26 + 4 * unit.zones.len();
+        let length = 26 + added(case.edition) + 4 * unit.zones.len();
         put(&mut file, offset as i128, 2);
         put(&mut file, length as i128, 2);
         offset += length;
     }
     for unit in &case.units {
-        encode_body(&mut file, unit);
+        encode_body(&mut file, unit, case.edition);
     }
     file
 }
 
-fn encode_body(file: &mut Vec<u8>, unit: &Unit) {
+fn encode_body(file: &mut Vec<u8>, unit: &Unit, edition: i128) {
     put(file, unit.c0, 4);
     put(file, unit.c1, 4);
     for value in [unit.c2, unit.b, unit.least, unit.greatest, unit.previous, unit.up, unit.down, unit.mark] {
         put(file, value, 2);
     }
     put(file, unit.zones.len() as i128, 2);
+    if edition == 2 {
+        put(file, unit.b1, 4);
+    }
     for (lower, upper) in &unit.zones {
         put(file, *lower, 2);
         put(file, *upper, 2);
@@ -156,7 +208,7 @@ fn encode_body(file: &mut Vec<u8>, unit: &Unit) {
 
 // ---- the planner's rows
 
-/// Writes a case as rows, without checks: a number keeps its low 32 bits.
+/// Writes a case as rows, without checks: a number keeps its low 32 bits, and b1 has no place.
 pub fn rows_of(case: &Case) -> Vec<u32> {
     case.units.iter().flat_map(row_of).collect()
 }
@@ -183,6 +235,7 @@ fn unit_of_row(row: &[u32]) -> Result<Unit, Refused> {
         c1: number(1),
         c2: number(2),
         b: number(3),
+        b1: 0,
         least: number(4),
         greatest: number(5),
         previous: number(6),
@@ -195,12 +248,12 @@ fn unit_of_row(row: &[u32]) -> Result<Unit, Refused> {
     Ok(unit)
 }
 
-/// Packs a demand and rows; the answer is the file's length.
+/// Packs a demand and rows to a file of edition 1; the answer is the file's length.
 pub fn pack(demand: u32, rows: &[u32], file: &mut [u8]) -> Result<usize, Refused> {
     refuse_if(rows.is_empty() || rows.len() % 19 != 0 || rows.len() > 608, 12)?;
     check_demand(i128::from(demand))?;
     let units = rows.chunks(19).map(unit_of_row).collect::<Result<_, _>>()?;
-    let bytes = encode(&Case { demand: i128::from(demand), units });
+    let bytes = encode(&Case { edition: 1, demand: i128::from(demand), units });
     refuse_if(file.len() < bytes.len(), 13)?;
     file[..bytes.len()].copy_from_slice(&bytes);
     Ok(bytes.len())
@@ -212,9 +265,10 @@ pub struct Unpacked {
     pub count: usize,
 }
 
+/// Unpacks a file of edition 1; a row could not hold b1.
 pub fn unpack(file: &[u8], rows: &mut [u32]) -> Result<Unpacked, Refused> {
     refuse_if(rows.len() < 608, 1)?;
-    let case = decode(file)?;
+    let case = parts(&[1], file)?.case()?;
     let numbers = rows_of(&case);
     rows[..numbers.len()].copy_from_slice(&numbers);
     Ok(Unpacked { demand: case.demand, count: case.units.len() })
@@ -241,7 +295,7 @@ pub fn cost(unit: &Unit, output: i128) -> i128 {
 }
 
 pub fn net(unit: &Unit, output: i128) -> i128 {
-    NET_OF_A_STEP * output - unit.b * output * output
+    NET_OF_A_STEP * output - unit.b1 * output - unit.b * output * output
 }
 
 /// A permitted output of a unit, with its cost and net.

@@ -5,8 +5,8 @@ use crate::solver::Refused;
 
 /// The numbers that each call can give by rule 4.3, calls in the order of their indices.
 pub const POSSIBLE: [&[usize]; 5] = [
-    &[1, 2, 3, 4, 5, 6, 7, 8, 9, 10, 11],
-    &[2, 3, 4, 5, 6, 7, 8, 9, 10, 11, 14],
+    &[1, 2, 3, 4, 5, 6, 7, 8, 9, 10, 11, 18],
+    &[2, 3, 4, 5, 6, 7, 8, 9, 10, 11, 14, 18],
     &[5, 7, 8, 9, 10, 12, 13],
     &[1, 2, 3, 4, 5, 6, 7, 8, 9, 10],
     &[15, 16, 17],
@@ -14,11 +14,11 @@ pub const POSSIBLE: [&[usize]; 5] = [
 
 /// The same of the calls in C, where a list too short for the answers gives pricing and the view the number 1 too.
 pub const POSSIBLE_IN_C: [&[usize]; 5] =
-    [POSSIBLE[0], &[1, 2, 3, 4, 5, 6, 7, 8, 9, 10, 11, 14], POSSIBLE[2], POSSIBLE[3], &[1, 15, 16, 17]];
+    [POSSIBLE[0], &[1, 2, 3, 4, 5, 6, 7, 8, 9, 10, 11, 14, 18], POSSIBLE[2], POSSIBLE[3], &[1, 15, 16, 17]];
 
 /// Counts by call and number; number 0 stands for an answer.
 #[derive(Default)]
-pub struct Tally([[u64; 18]; 5]);
+pub struct Tally([[u64; 19]; 5]);
 
 impl Tally {
     /// Counts a call by its index, and its refusal or none.

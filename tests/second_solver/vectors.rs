@@ -7,6 +7,10 @@ use crate::solver::{self, Case, Priced, Refused, Reply, Unit};
 const U5: &str = "0001000100000005000c001e000000000000271003e800000002000a000000000000000000010004\
                   0007";
 
+/// The file of U with b1 −10,000,000 and demand 5, in edition 2 (rule 17.4).
+const U5_IN_EDITION_2: &str = "0002000100000005000c0022000000000000271003e800000002000a000000000000000000\
+                               01ff67698000040007";
+
 /// The reply to U5.
 const U5_REPLY: &str = "00010012000000000001d0d8000000000000a410000000000bebc2000007";
 
@@ -17,6 +21,7 @@ pub fn u() -> Unit {
         c1: 10_000,
         c2: 1_000,
         b: 0,
+        b1: 0,
         least: 2,
         greatest: 10,
         previous: 0,
@@ -28,7 +33,15 @@ pub fn u() -> Unit {
 }
 
 fn u5() -> Case {
-    Case { demand: 5, units: vec![u()] }
+    Case { edition: 1, demand: 5, units: vec![u()] }
+}
+
+fn with_b1(b1: i128) -> Unit {
+    Unit { b1, ..u() }
+}
+
+fn in_edition_2(vector: Vector) -> Vector {
+    Vector { case: Case { edition: 2, ..vector.case }, ..vector }
 }
 
 fn u_must_run() -> Unit {
@@ -65,11 +78,11 @@ pub struct Vector {
 }
 
 fn replied(demand: i128, units: Vec<Unit>, stated: Stated) -> Vector {
-    Vector { case: Case { demand, units }, expected: Expected::Replied(stated) }
+    Vector { case: Case { edition: 1, demand, units }, expected: Expected::Replied(stated) }
 }
 
 fn refused(demand: i128, units: Vec<Unit>, number: u32) -> Vector {
-    Vector { case: Case { demand, units }, expected: Expected::Refused(number) }
+    Vector { case: Case { edition: 1, demand, units }, expected: Expected::Refused(number) }
 }
 
 fn whole(outputs: Vec<i128>, cost: i128, gap: i128, evaluations: i128, surplus: i128) -> Stated {
@@ -142,6 +155,55 @@ fn covered_by_no_choice(demand: i128, b: i128) -> Vector {
     replied(demand, vec![lossy(b)], stated)
 }
 
+/// Cases of edition 2 (rule 17.4).
+pub fn edition_2() -> Vec<Vector> {
+    let must_not = Unit { mark: 2, ..u() };
+    let lossy = |b, b1| Unit { b, b1, ..u() };
+    let vectors = vec![
+        // edition 2 refused, or its edges read where edition 1 has them
+        replied(5, vec![u()], whole(vec![7], 119_000, 42_000, 18, 200_000_000)),
+        refused(5, vec![Unit { zones: vec![(2, 7)], ..u() }], 9),
+        // b1 left out of the net, or taken with the other sign
+        replied(5, vec![with_b1(-10_000_000)], whole(vec![7], 119_000, 51_600, 18, 270_000_000)),
+        replied(5, vec![with_b1(10_000_000)], whole(vec![7], 119_000, 30_800, 18, 130_000_000)),
+        // a net above the output
+        replied(11, vec![with_b1(-10_000_000)], whole(vec![10], 200_000, 0, 2, 0)),
+        // b1 read as an unsigned number
+        replied(10, vec![with_b1(-1)], whole(vec![10], 200_000, 0, 18, 10)),
+        refused(10, vec![with_b1(1)], 11),
+        // b1 of another unit
+        replied(5, vec![with_b1(10_000_000), with_b1(-10_000_000)], whole(vec![2, 3], 63_000, 1_400, 18, 10_000_000)),
+        // the most that b and b1 may be together; 8 before 18
+        replied(5, vec![lossy(5_000, 4_999)], whole(vec![7], 119_000, 41_979, 18, 199_720_007)),
+        refused(5, vec![lossy(5_000, 5_000)], 18),
+        refused(5, vec![lossy(5_001, 5_000)], 8),
+        // the range of b1, in which a negative one passes the sum
+        refused(5, vec![with_b1(10_000_001)], 18),
+        refused(5, vec![with_b1(-10_000_001)], 18),
+        refused(5, vec![lossy(5_000, -10_000_001)], 18),
+        // 18 before 9 and 10, and all of a unit before the next
+        refused(5, vec![Unit { least: 0, ..with_b1(10_000_001) }], 18),
+        refused(5, vec![Unit { mark: 2, ..with_b1(10_000_001) }], 18),
+        refused(5, vec![must_not.clone(), with_b1(10_000_001)], 10),
+        refused(5, vec![with_b1(10_000_001), must_not], 18),
+    ];
+    vectors.into_iter().map(in_edition_2).collect()
+}
+
+/// Pricings of edition 2: b1 in the choice (rule 17.4), and the least dual value that there is (rule 1.7).
+pub fn pricings_of_edition_2() -> Vec<(Case, u32, Priced)> {
+    let priced_u5 =
+        |b1, dual, covered| (Case { edition: 2, demand: 5, units: vec![with_b1(b1)] }, 21, Priced { dual, covered });
+    let free = Unit { c1: 0, c2: 0, greatest: 10_000, zones: vec![], ..with_b1(-10_000_000) };
+    let all_free = Case { edition: 2, demand: 0, units: vec![free; 32] };
+    vec![
+        priced_u5(0, 7_700_000_000, true),
+        priced_u5(-1, 7_699_999_853, true),
+        priced_u5(1, 7_700_000_084, false),
+        (all_free, 65_536, Priced { dual: -2_306_867_200_000_000_000, covered: true }),
+    ]
+}
+
 /// The pricings of U with demand 5 (rule 17.1).
 const PRICINGS: [(u32, i128); 2] = [(21, 7_700_000_000), (65_536, -32_748_000_000_000)];
 
@@ -187,11 +249,23 @@ pub fn check() -> usize {
         assert_eq!(solver::price(&u5, multiplier), Ok(Priced { dual, covered }), "U5 priced at {}", multiplier);
     }
     check_views();
-    let vectors: Vec<Vector> = table().into_iter().chain(further()).collect();
+    let vectors: Vec<Vector> = table().into_iter().chain(further()).chain(edition_2()).collect();
     for vector in &vectors {
         check_vector(vector);
     }
-    vectors.len() + PRICINGS.len() + VIEWS.len()
+    vectors.len() + PRICINGS.len() + VIEWS.len() + check_edition_2()
+}
+
+/// Asserts what is stated of edition 2 beside its cases; tells how many numbers that is.
+fn check_edition_2() -> usize {
+    let pricings = pricings_of_edition_2();
+    for (case, multiplier, priced) in &pricings {
+        assert_eq!(solver::price(&solver::encode(case), *multiplier), Ok(*priced), "{:?} priced at {}", case, multiplier);
+    }
+    let file = solver::encode(&Case { edition: 2, demand: 5, units: vec![with_b1(-10_000_000)] });
+    assert_eq!(hex(&file), U5_IN_EDITION_2, "the file of U5 in edition 2");
+    assert_eq!(solver::unpack(&file, &mut [0; 608]), Err(Refused(3)), "unpacking of edition 2");
+    pricings.len() + 2
 }
 
 fn check_vector(vector: &Vector) {

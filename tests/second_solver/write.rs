@@ -1,5 +1,6 @@
 //! Writes the runner's two files: `write STDIN STDOUT`. The format is in README.md.
 
+use second_solver::branches::Reached;
 use second_solver::calls::{bytes_of, Call};
 use second_solver::generate::{accepted_kinds, kinds};
 use second_solver::random::Random;
@@ -21,6 +22,7 @@ struct Files {
     records: Vec<Vec<u8>>,
     lines: Vec<String>,
     tally: Tally,
+    reached: Reached,
     promises: usize,
 }
 
@@ -33,11 +35,15 @@ fn main() {
     let vectors = vectors::check();
     let files = make_files();
     files.tally.assert_complete(POSSIBLE);
+    files.reached.assert_complete();
     assert_every_exception(&files.lines);
     std::fs::write(input_path, input(&files.records)).expect(input_path);
     std::fs::write(output_path, output(&files)).expect(output_path);
     println!("{} vectors as stated", vectors);
     println!("{} calls, {} dispatches checked by brute force", files.tally.total(), files.promises);
+    for line in files.reached.lines() {
+        println!("{}", line);
+    }
 }
 
 fn make_files() -> Files {
@@ -82,7 +88,7 @@ fn output(files: &Files) -> String {
 }
 
 fn record(what: u16, kind: usize, number: u32, room: usize, content: &[u8]) -> Vec<u8> {
-    assert!(kind < 32 && content.len() <= 2_560);
+    assert!(kind < 64 && content.len() <= 2_560);
     let mut bytes = what.to_be_bytes().to_vec();
     bytes.extend((kind as u16).to_be_bytes());
     bytes.extend(number.to_be_bytes());
@@ -120,6 +126,7 @@ impl Files {
         self.records.push(record);
         self.lines.push(line);
         self.tally.count(call.index(), refused);
+        self.reached.count(call, refused);
     }
 
     fn check_promise(&mut self, file: &[u8]) {

@@ -4,7 +4,7 @@ use mathlib.Core.List.{List}
 use lib.IntN.{ℤ}
 use Rattle.rules.specs.Problem.{Problem}
 use Rattle.rules.specs.Choice.{choice, choices, selected}
-use Rattle.rules.proofs.Integers.{Is}
+use Rattle.fields.proofs.Integers.{Is}
 use Rattle.pricing.specs.declared.Sums as code-sums
 use Rattle.pricing.specs.Totals.{HoldsOutputs, Allocates}
 use Rattle.pricing.proofs.Offers.{dual-held}

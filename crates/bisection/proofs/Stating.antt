@@ -10,8 +10,8 @@ use mir.Val.{SFits, toZ, ofZ}
 use mir.Facts.{toZ-ofZ}
 use Rattle.rules.specs.Numbers.{natural}
 use Rattle.rules.specs.Bisection.{replyOf}
-use Rattle.rules.proofs.Integers.{up, dn, Is, itself, is-pos, is-minus, cast, fits, kept, not-negative, size-is, up-is, one-zero, ints}
-use Rattle.rules.proofs.Economics.Solution.{natural-up}
+use Rattle.fields.proofs.Integers.{up, dn, Is, itself, is-pos, is-minus, cast, fits, kept, not-negative, size-is, up-is, one-zero, ints}
+use Rattle.rules.proofs.Economics.Quantities.{natural-up}
 use Rattle.bisection.specs.declared.reply.Reply as code-reply
 use Rattle.bisection.specs.declared.search.Found as code-found
 use Rattle.bisection.specs.Solved.{Stateable, States}

@@ -38,7 +38,7 @@ fn stated(target: u64, f: Found) -> Reply
 
 // The solution of a problem that step 1 accepts; `first` are its greatest outputs.
 pub fn solve(
-    coefficients: &[u64; 128],
+    coefficients: &[u64; 160],
     ends: &[u16; 384],
     ranges: &[u8; 64],
     n: usize,
@@ -59,7 +59,7 @@ pub fn dispatch(file: &[u8], reply: &mut [u8]) -> Dispatched
     if reply.len() < 92 {
         return Dispatched::Refused(Refusal::BufferTooShort);
     }
-    let mut coefficients = [0u64; 128];
+    let mut coefficients = [0u64; 160];
     let mut ends = [0u16; 384];
     let mut ranges = [0u8; 64];
     let mut outputs = [0u16; 32];

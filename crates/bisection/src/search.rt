@@ -30,7 +30,7 @@ pub struct Found {
 
 // One evaluation, of `m`: writes the outputs that it takes.
 pub fn select(
-    coefficients: &[u64; 128],
+    coefficients: &[u64; 160],
     ends: &[u16; 384],
     ranges: &[u8; 64],
     n: usize,
@@ -59,7 +59,7 @@ fn greater(a: i64, b: i64) -> i64
 
 // Step 4: halves from 0 and 65,536, where `start` is what the evaluations of these found. The ends are `low` and `low` + `width`.
 fn halve(
-    coefficients: &[u64; 128],
+    coefficients: &[u64; 160],
     ends: &[u16; 384],
     ranges: &[u8; 64],
     n: usize,
@@ -115,7 +115,7 @@ fn halve(
 
 // Steps 2 to 4: `first` are the greatest outputs, which step 1 found to cover.
 pub fn search(
-    coefficients: &[u64; 128],
+    coefficients: &[u64; 160],
     ends: &[u16; 384],
     ranges: &[u8; 64],
     n: usize,

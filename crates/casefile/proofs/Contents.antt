@@ -1,5 +1,5 @@
 -- The contents: what the loop over the entries keeps, and that accepted entries name bodies inside the file.
-use Prim.Native.Nat.{ℕ, _+_, _*_, _≤_, _<_}
+use Prim.Native.Nat.{ℕ, _+_, _-_, _*_, _≤_, _<_}
 use native.Mathlib.Decide.{decLt}
 use native.Mathlib.Numerals.{add-one}
 use native.Mathlib.Omega.{arith}
@@ -12,32 +12,44 @@ use lib.ListN.{length, drop, length-drop}
 use lib.Seq.{length-take-le}
 use borrow.Author.Tests.{lt-ltb, le-ltb, eq-eqb, ne-eqb}
 use Rattle.rules.specs.Lists.{each, all}
-use Rattle.rules.specs.Layout.{count, offset, size, body}
+use Rattle.rules.specs.Layout.{edgesStart, bodyLength, edition, count, offset, size, body}
 use Rattle.rules.specs.Refusal.{_refuses_, start, legalSize, entryFits, contentsVerdict}
 use Rattle.rules.specs.declared.Refusal.the-variants.{ContentsInvalid}
 use Rattle.rules.specs.declared.Verdict.the-variants.{Accepted}
 use Rattle.rules.proofs.Each.{rest-ends, rest-more}
+use Rattle.rules.proofs.Encoding.Body.{edges-start}
 use Rattle.rules.proofs.Encoding.SoundFile.{SoundContents, sound-contents, body-within}
 use Rattle.casefile.specs.Required.{BodyInside}
 
 -- ---- legal lengths
 
-module _ (l : ℕ) where
-  pub legal : (l ≡ 26) ⊎ ((l ≡ 30) ⊎ ((l ≡ 34) ⊎ ((l ≡ 38) ⊎ (l ≡ 42)))) → legalSize l ≡ true
-  legal (inl e) = rw e
-  legal (inr (inl e)) = rw e
-  legal (inr (inr (inl e))) = rw e
-  legal (inr (inr (inr (inl e)))) = rw e
-  legal (inr (inr (inr (inr e)))) = rw e
+module _ (e l : ℕ) where
+  -- by what the edges of a body leave behind the place where they start
+  pub legal : edgesStart e ≤ l → (l - edgesStart e ≡ 0) ⊎ ((l - edgesStart e ≡ 4) ⊎ ((l - edgesStart e ≡ 8) ⊎ ((l - edgesStart e ≡ 12) ⊎ (l - edgesStart e ≡ 16)))) → legalSize e l ≡ true
+  legal h (inl k) = simp (eq-eqb l (bodyLength e 0) (omega arith))
+  legal h (inr (inl k)) = simp (ne-eqb l (bodyLength e 0) (omega arith), eq-eqb l (bodyLength e 1) (omega arith))
+  legal h (inr (inr (inl k))) = simp (ne-eqb l (bodyLength e 0) (omega arith), ne-eqb l (bodyLength e 1) (omega arith), eq-eqb l (bodyLength e 2) (omega arith))
+  legal h (inr (inr (inr (inl k)))) =
+      simp (ne-eqb l (bodyLength e 0) (omega arith), ne-eqb l (bodyLength e 1) (omega arith), ne-eqb l (bodyLength e 2) (omega arith), eq-eqb l (bodyLength e 3) (omega arith))
+  legal h (inr (inr (inr (inr k)))) =
+      simp (ne-eqb l (bodyLength e 0) (omega arith), ne-eqb l (bodyLength e 1) (omega arith), ne-eqb l (bodyLength e 2) (omega arith), ne-eqb l (bodyLength e 3) (omega arith), eq-eqb l (bodyLength e 4) (omega arith))
 
-  pub illegal : (l ≡ 26 → ⊥) → (l ≡ 30 → ⊥) → (l ≡ 34 → ⊥) → (l ≡ 38 → ⊥) → (l ≡ 42 → ⊥) → legalSize l ≡ false
-  illegal a b c d e = rw (ne-eqb l 26 a, ne-eqb l 30 b, ne-eqb l 34 c, ne-eqb l 38 d, ne-eqb l 42 e)
+  -- of no number of zones
+  pub illegal : ((z : ℕ) → z ≤ 4 → l ≡ bodyLength e z → ⊥) → legalSize e l ≡ false
+  illegal h =
+      simp (
+        ne-eqb l (bodyLength e 0) (h 0 (omega arith)),
+        ne-eqb l (bodyLength e 1) (h 1 (omega arith)),
+        ne-eqb l (bodyLength e 2) (h 2 (omega arith)),
+        ne-eqb l (bodyLength e 3) (h 3 (omega arith)),
+        ne-eqb l (bodyLength e 4) (h 4 (omega arith)),
+      )
 
-  legal-long : legalSize l ≡ true → 26 ≤ l
-  legal-long e = by (decLt l 26)
+  legal-long : legalSize e l ≡ true → 26 ≤ l
+  legal-long t = by (decLt l 26)
     where
       by : Dec (l < 26) → 26 ≤ l
-      by (yes h) = absurd (true≢false (sym e ∙ illegal (omega arith) (omega arith) (omega arith) (omega arith) (omega arith)))
+      by (yes h) = absurd (true≢false (sym t ∙ illegal (λ z k s. omega (arith, edges-start e))))
       by (no h) = omega arith
 
 -- ---- the loop over the entries
@@ -80,10 +92,10 @@ module _ (file : List ℕ) (n : ℕ) where
         follows : eqb (offset file i) (start file i) ≡ true
         follows = eq-eqb (offset file i) (start file i) (o ∙ p .ends)
 
-        pub contents-size : legalSize (size file i) ≡ false → invalid file n ≡ true
+        pub contents-size : legalSize (edition file) (size file i) ≡ false → invalid file n ≡ true
         contents-size e = misfit (rw (rest-more n (λ k. k) i h, follows, e))
 
-        pub passed-more : legalSize (size file i) ≡ true → Passed file n (offset file i + size file i) (i + 1)
+        pub passed-more : legalSize (edition file) (size file i) ≡ true → Passed file n (offset file i + size file i) (i + 1)
         passed-more e =
             record {
               within = omega arith;
@@ -95,7 +107,7 @@ module _ (file : List ℕ) (n : ℕ) where
 -- ---- accepted contents
 
 pub inside : {file : List ℕ} → SoundContents file → (i : ℕ) → i < count file → BodyInside file i
-inside {file} s i h = record { entry = omega (arith, s .room); within = body-within s i h; long = legal-long (size file i) (s .sizes i h) }
+inside {file} s i h = record { entry = omega (arith, s .room); within = body-within s i h; long = legal-long (edition file) (size file i) (s .sizes i h) }
 
 pub body-inside : (file : List ℕ) → contentsVerdict file ≡ Accepted → (i : ℕ) → i < count file → BodyInside file i
 body-inside file accepted = inside (sound-contents file .0 accepted)

@@ -3,7 +3,7 @@ use Prim.Native.Nat.{ℕ, _<_}
 use mathlib.Core.Path.{_≡_, refl}
 use mathlib.Core.List.{List}
 use Rattle.rules.specs.Lists.{each}
-use Rattle.rules.specs.Layout.{count, body}
+use Rattle.rules.specs.Layout.{edition, count, body}
 use Rattle.rules.specs.Refusal.{inOrder, headVerdict, contentsVerdict, bodyVerdict, fileVerdict}
 use Rattle.rules.specs.declared.Refusal.{Refusal}
 use Rattle.rules.specs.declared.Verdict.the-variants.{Accepted, Refused}
@@ -36,8 +36,8 @@ module _ (file : List ℕ) (accepted : fileVerdict file ≡ Accepted) where
     pub accepted-inside : BodyInside file i
     accepted-inside = inside (sound-file file .0 accepted .contents) i h
 
-    accepted-body : bodyVerdict (body file i) ≡ Accepted
+    accepted-body : bodyVerdict (edition file) (body file i) ≡ Accepted
     accepted-body = sound-file file .0 accepted .bodies i h
 
-    pub accepted-fits : BodyFits (body file i)
-    accepted-fits = body-accepted (body file i) accepted-body
+    pub accepted-fits : BodyFits (edition file) (body file i)
+    accepted-fits = body-accepted (edition file) (body file i) accepted-body

@@ -10,15 +10,16 @@ use Rattle.rules.specs.Refusal.{bodyVerdict}
 use Rattle.rules.specs.declared.Refusal.{Refusal}
 use Rattle.rules.specs.declared.Verdict.{Verdict}
 
--- A body whose zone count is at most 4 and fits its length.
-pub record BodyFits (s : List ℕ) : Type 0 where
+-- A body of edition e whose zone count is at most 4 and fits its length.
+pub record BodyFits (e : ℕ) (s : List ℕ) : Type 0 where
   pub zones : field s 24 2 ≤ 4
-  pub size : length s ≡ bodyLength (field s 24 2)
+  pub size : length s ≡ bodyLength e (field s 24 2)
+  pub long : 26 ≤ length s
 
 -- Whether a body does so: one that does not is refused.
-pub record FitTold (s : List ℕ) (r : Bool) : Type 0 where
-  pub fits : r ≡ true → BodyFits s
-  pub misfits : r ≡ false → bodyVerdict s ≡ Verdict.Refused Refusal.ZoneCountInvalid
+pub record FitTold (e : ℕ) (s : List ℕ) (r : Bool) : Type 0 where
+  pub fits : r ≡ true → BodyFits e s
+  pub misfits : r ≡ false → bodyVerdict e s ≡ Verdict.Refused Refusal.ZoneCountInvalid
 
 -- A body that lies inside the file, and is long enough for a zone count.
 pub record BodyInside (file : List ℕ) (i : ℕ) : Type 0 where

@@ -31,5 +31,6 @@ pub fn read_unit(file: &[u8], i: usize) -> Unit
     requires { ⌜ i < count (now file) ⌝ }
     ensures { λ r. ⌜ unitHeld r ≡ unitAt (now (file .entry)) i ⌝ }
 {
-    read_body(body_of(file, i))
+    let edition = fields::read_u16(file, 0);
+    read_body(body_of(file, i), edition)
 }

@@ -5,46 +5,60 @@ ghost use Prim.Native.Nat.{_+_, _*_, _≤_};
 ghost use lib.Dec.{ltb, eqb};
 ghost use lib.ListN.{length};
 ghost use Rattle.rules.specs.Lists.{each, all};
-ghost use Rattle.rules.specs.Layout.{body};
-ghost use Rattle.rules.specs.Refusal.{inOrder, headVerdict, start, legalSize, entryFits, contentsVerdict, bodyVerdict, fileVerdict};
+ghost use Rattle.rules.specs.Layout.{edition, body};
+ghost use Rattle.rules.specs.Refusal.{inOrder, editionVerdict, headVerdict, start, legalSize, entryFits, contentsVerdict, bodyVerdict, fileVerdict};
 ghost use Rattle.casefile.specs.Required.{HeadRead, BodyInside, FitTold};
+use crate::reading::edges_start;
 use crate::reading::read_body;
 use rules::Refusal;
 use rules::Verdict;
 use unit::check_numbers;
 
 // Whether a body has at most four zones and the length that they ask for.
-pub fn body_fits(body: &[u8]) -> bool
+pub fn body_fits(body: &[u8], edition: u16) -> bool
     requires { ⌜ 26 ≤ length (now body) ⌝ }
-    ensures { λ r. ⌜ FitTold (now (body .entry)) r ⌝ }
+    ensures { λ r. ⌜ FitTold edition (now (body .entry)) r ⌝ }
 {
     let zone_count = fields::read_u16(body, 24) as usize;
     if zone_count > 4 {
         return false;
     }
-    body.len() == 26 + 4 * zone_count
+    let start = edges_start(edition);
+    body.len() == start + 4 * zone_count
 }
 
 // A body: its zone count against its length, then the numbers of its unit.
-fn check_body(body: &[u8]) -> Verdict
+fn check_body(body: &[u8], edition: u16) -> Verdict
     requires { ⌜ 26 ≤ length (now body) ⌝ }
-    ensures { λ r. ⌜ r ≡ bodyVerdict (now (body .entry)) ⌝ }
+    ensures { λ r. ⌜ r ≡ bodyVerdict edition (now (body .entry)) ⌝ }
 {
-    if !body_fits(body) {
+    if !body_fits(body, edition) {
         return Verdict::Refused(Refusal::ZoneCountInvalid);
     }
-    check_numbers(read_body(body))
+    check_numbers(read_body(body, edition))
 }
 
-// The head, read only once the file is long enough for one.
-pub fn check_head(file: &[u8]) -> Verdict
-    ensures { λ r. ⌜ r ≡ headVerdict (now (file .entry)) ⌝ }
+// The edition, which is from 1 to `newest`, read only once the file is long enough for a head.
+pub fn check_edition(file: &[u8], newest: u16) -> Verdict
+    ensures { λ r. ⌜ r ≡ editionVerdict newest (now (file .entry)) ⌝ }
 {
     if file.len() < 8 {
         return Verdict::Refused(Refusal::FileTooShort);
     }
-    if fields::read_u16(file, 0) != 1 {
+    let edition = fields::read_u16(file, 0);
+    if edition < 1 || edition > newest {
         return Verdict::Refused(Refusal::EditionUnknown);
+    }
+    Verdict::Accepted
+}
+
+// The head of a file of either edition.
+pub fn check_head(file: &[u8]) -> Verdict
+    ensures { λ r. ⌜ r ≡ headVerdict (now (file .entry)) ⌝ }
+{
+    let edition = check_edition(file, 2);
+    if let Verdict::Refused(_) = edition {
+        return edition;
     }
     let n = fields::read_u16(file, 2);
     if n < 1 || n > 32 {
@@ -56,12 +70,18 @@ pub fn check_head(file: &[u8]) -> Verdict
     Verdict::Accepted
 }
 
-// Whether a body may have this length.
-fn legal_size(size: u16) -> bool
-    ensures { λ r. ⌜ r ≡ legalSize size ⌝ }
+// Whether a body may have this length: some number of zones, 0 to 4, makes it so long.
+fn legal_size(edition: u16, size: u16) -> bool
+    ensures { λ r. ⌜ r ≡ legalSize edition size ⌝ }
 {
-    match size {
-        26 | 30 | 34 | 38 | 42 => true,
+    let size = size as usize;
+    let start = edges_start(edition);
+    if size < start {
+        return false;
+    }
+    let edges = size - start;
+    match edges {
+        0 | 4 | 8 | 12 | 16 => true,
         _ => false,
     }
 }
@@ -75,6 +95,7 @@ fn contents_invalid(file: &[u8], n: usize) -> bool
     if file.len() < at {
         return true;
     }
+    let edition = fields::read_u16(file, 0);
     let mut i = 0;
     while i < n {
         let offset = fields::read_u16(file, 8 + 4 * i) as usize;
@@ -82,7 +103,7 @@ fn contents_invalid(file: &[u8], n: usize) -> bool
         if offset != at {
             return true;
         }
-        if !legal_size(size) {
+        if !legal_size(edition, size) {
             return true;
         }
         at = offset + size as usize;
@@ -116,11 +137,12 @@ pub fn body_of(file: &[u8], i: usize) -> &[u8]
 fn check_bodies(file: &[u8], n: usize) -> Verdict
     requires { ⌜ HeadRead (now file) n ⌝ }
     requires { ⌜ contentsVerdict (now file) ≡ Verdict.Accepted ⌝ }
-    ensures { λ r. ⌜ r ≡ inOrder (each n (λ i. bodyVerdict (body (now (file .entry)) i))) ⌝ }
+    ensures { λ r. ⌜ r ≡ inOrder (each n (λ i. bodyVerdict (edition (now (file .entry))) (body (now (file .entry)) i))) ⌝ }
 {
+    let edition = fields::read_u16(file, 0);
     let mut i = 0;
     while i < n {
-        let verdict = check_body(body_of(file, i));
+        let verdict = check_body(body_of(file, i), edition);
         if let Verdict::Refused(_) = verdict {
             return verdict;
         }

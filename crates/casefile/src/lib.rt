@@ -12,5 +12,6 @@ pub use checking::body_fits;
 pub use checking::body_of;
 pub use checking::check;
 pub use checking::check_contents;
+pub use checking::check_edition;
 pub use checking::check_head;
 pub use reading::read_body;

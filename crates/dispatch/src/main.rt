@@ -57,7 +57,7 @@ fn complain(message: &[u8]) {
 }
 
 fn main() {
-    let mut file = [0u8; 1481];
+    let mut file = [0u8; 1609];
     let Input { length, failed } = read_input(&mut file);
     if failed {
         complain(b"standard input could not be read\n");

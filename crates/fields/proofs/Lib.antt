@@ -1,1 +1,3 @@
 pub mod Width
+pub mod Integers
+pub mod Signed

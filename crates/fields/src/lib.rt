@@ -1,9 +1,9 @@
 // Big-endian numbers of 16, 32 and 64 bits in byte slices. One loop reads and one loop writes a number of any width up to
-// eight bytes; the functions at a width are calls of them.
+// eight bytes; the functions at a width are calls of them. A signed number is in two's complement.
 ghost use mathlib.Core.Path.{_≡_};
 ghost use Prim.Native.Nat.{_+_, _≤_, _<_, _^_};
 ghost use lib.ListN.{length};
-ghost use Rattle.fields.specs.Field.{field, written};
+ghost use Rattle.fields.specs.Field.{field, signedField, written};
 
 fn wide(byte: u8) -> u64
     ensures { λ r. ⌜ (r ≡ byte) × (r < 256) ⌝ }
@@ -58,6 +58,17 @@ pub fn read_u64(s: &[u8], at: usize) -> u64
     ensures { λ r. ⌜ r ≡ field (now (s .entry)) at 8 ⌝ }
 {
     read_number(s, at, 8)
+}
+
+pub fn read_i32(s: &[u8], at: usize) -> i32
+    requires { ⌜ at + 4 ≤ length (now s) ⌝ }
+    ensures { λ r. ⌜ r ≡ signedField (now (s .entry)) at 4 ⌝ }
+{
+    let n = read_number(s, at, 4);
+    if n < 2147483648 {
+        return n as i32;
+    }
+    (n as i64 - 4294967296) as i32
 }
 
 pub fn write_u16(s: &mut [u8], at: usize, n: u16)

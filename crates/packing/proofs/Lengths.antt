@@ -13,7 +13,7 @@ use Rattle.rules.specs.Unit.{Unit}
 use Rattle.rules.specs.Layout.{unitOfRow, rowAt, unitInRow, bodyLength, bodyOfUnit, contentsFrom, bodiesOf, bodiesLength, fileOf}
 use Rattle.rules.proofs.Lists.{length-each, each-last, every-each}
 use Rattle.rules.proofs.Sound.{sound}
-use Rattle.rules.proofs.Encoding.Rows.{length-rowAt, row-eight}
+use Rattle.rules.proofs.Encoding.Rows.{length-rowAt, row-in-row}
 use Rattle.rules.proofs.Encoding.Body.{Packable}
 use Rattle.rules.proofs.Encoding.RoundTrip.{length-file}
 use Rattle.packing.specs.Required.{RowsSound}
@@ -23,7 +23,7 @@ unfolding unitOfRow
 row-zones rows i = rw (getD-take 19 (drop (19 * i) rows) 10 0 (omega arith), getD-drop (19 * i) rows 10 0)
 
 abbrev pub sizeOf : Unit → ℕ
-sizeOf u = bodyLength (u .zoneCount)
+sizeOf u = bodyLength 1 (u .zoneCount)
 
 -- ---- over lists
 
@@ -79,7 +79,7 @@ module _ {rows : List ℕ} {n : ℕ} (r : RowsSound rows n) where
   packable i h =
       record {
         sound = sound (unitInRow rows i) (r .accepted i h);
-        eight = row-eight (rowAt rows i) (length-rowAt rows n i (r .room) h);
+        row = row-in-row (rowAt rows i) (length-rowAt rows n i (r .room) h);
       }
 
   pub few-zones : (i : ℕ) → i < n → unitInRow rows i .zoneCount ≤ 4

@@ -1,4 +1,4 @@
-// Packing: the case file of a demand and planner's rows. Every check comes before the first write.
+// Packing: the case file, of edition 1, of a demand and planner's rows. Every check comes before the first write.
 ghost use mathlib.Core.Path.{_≡_};
 ghost use mathlib.Core.Bool.{not, _||_};
 ghost use mathlib.Core.List.{_++_};
@@ -55,7 +55,7 @@ fn check_rows(rows: &[u32], n: usize) -> Verdict
 fn body_length(rows: &[u32], i: usize) -> usize
     requires { ⌜ 19 * i + 19 ≤ length (now rows) ⌝ }
     requires { ⌜ unitInRow (now rows) i .zoneCount ≤ 4 ⌝ }
-    ensures { λ r. ⌜ (r ≡ bodyLength (unitInRow (now (rows .entry)) i .zoneCount)) × (r ≤ 42) ⌝ }
+    ensures { λ r. ⌜ (r ≡ bodyLength 1 (unitInRow (now (rows .entry)) i .zoneCount)) × (r ≤ 42) ⌝ }
 {
     26 + 4 * rows[19 * i + 10] as usize
 }
@@ -117,7 +117,7 @@ fn write_words(part: &mut [u8], words: &[u32])
 // Writes a unit's body to the start of `part`.
 fn write_body(part: &mut [u8], u: Unit)
     requires { ⌜ unitVerdict (unitHeld u) ≡ Verdict.Accepted ⌝ }
-    requires { ⌜ bodyLength (unitHeld u .zoneCount) ≤ length (now part) ⌝ }
+    requires { ⌜ bodyLength 1 (unitHeld u .zoneCount) ≤ length (now part) ⌝ }
     ensures { λ _. ⌜ now (part .exit) ≡ over (bodyOfUnit (unitHeld u)) (now (part .entry)) ⌝ }
 {
     let Unit {
@@ -133,6 +133,7 @@ fn write_body(part: &mut [u8], u: Unit)
         mark,
         zone_count,
         edges,
+        ..
     } = u;
     let words = [c2, b, least, greatest, previous, up, down, mark, zone_count];
     let used = 2 * zone_count as usize;

@@ -20,7 +20,7 @@ fn row_edges(row: &[u32]) -> [u32; 8]
     edges
 }
 
-// The numbers of one row.
+// The numbers of one row, which has no b1.
 fn row_numbers(row: &[u32]) -> Unit
     requires { ⌜ length (now row) ≡ 19 ⌝ }
     ensures { λ r. ⌜ unitHeld r ≡ unitOfRow (now (row .entry)) ⌝ }
@@ -31,6 +31,7 @@ fn row_numbers(row: &[u32]) -> Unit
         c1: row[1],
         c2: row[2],
         b: row[3],
+        b1: 0,
         least: row[4],
         greatest: row[5],
         previous: row[6],

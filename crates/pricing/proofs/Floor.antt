@@ -3,7 +3,7 @@ use Prim.Native.Nat.{_+_, _/_}
 use native.Mathlib.Omega.{arith}
 use lib.IntN.{ℤ, pos, negsuc}
 use Rattle.rules.specs.Numbers.{dividedUp}
-use Rattle.rules.proofs.Integers.{Is, up, dn, is-pos, is-negsuc, is-quot}
+use Rattle.fields.proofs.Integers.{Is, up, dn, is-pos, is-negsuc, is-quot}
 
 pub floor-is : (z : ℤ) → Is (dividedUp z 100000) ((up z + 99999) / 100000) (dn z / 100000)
 unfolding dividedUp up dn

@@ -2,7 +2,7 @@
 use mathlib.Core.Path.{_≡_, refl, ap, subst, _∙_}
 use mathlib.Core.List.{List}
 use Prim.Native.Nat.{ℕ, _+_, _*_, _-_, _/_, _≤_, _<_}
-use native.Mathlib.Nat.{mul-le-mul, mul-le-mul-left, mul-le-mul-right, mul-div-le, lt-mul-div-succ, le-div-iff-mul-le, div-lt-iff-lt-mul}
+use native.Mathlib.Nat.{le-refl, mul-le-mul, mul-le-mul-left, mul-le-mul-right, mul-div-le, lt-mul-div-succ, le-div-iff-mul-le, div-lt-iff-lt-mul}
 use native.Mathlib.Decide.{decLt, ℕ-discrete}
 use native.Mathlib.Omega.{arith}
 use lib.IntN.{ℤ, pos, _-ℤ_}
@@ -10,12 +10,12 @@ use lib.Signed.{_≤ℤ_, _<ℤ_, ≤ℤ-refl}
 use borrow.Author.Tests.{ne-eqb}
 use mir.Syntax.{w64}
 use mir.Val.{SFits, toZ, ofZ}
-use Rattle.rules.specs.Unit.{Unit, cost, net}
+use Rattle.rules.specs.Unit.{Unit, cost, linearFactor, net}
 use Rattle.rules.specs.Choice.{pricedCost}
-use Rattle.rules.proofs.Integers.{Is, up, dn, is-pos, is-sub, is-minus, cast, fits, kept, same, at-most, under, up-is, dn-is}
+use Rattle.fields.proofs.Integers.{Is, up, dn, is-pos, is-sub, is-minus, cast, fits, kept, same, at-most, under, up-is, dn-is}
 use Rattle.rules.proofs.Sound.{Sound}
-use Rattle.rules.proofs.Economics.Quantities.{cost-running, cost-standing, net-whole, priced-is}
-use Rattle.site.specs.Site.{c0At, c1At, c2At, bAt, Coefficients}
+use Rattle.rules.proofs.Economics.Quantities.{factor, cost-running, cost-standing, net-whole, priced-is}
+use Rattle.site.specs.Site.{factorAt, c0At, c1At, c2At, bAt, Coefficients}
 use Rattle.pricing.specs.declared.Curve as code
 use Rattle.pricing.specs.Curve.{height, pricedAt, IsCurve, InRange, AtOutput, AtMultiplier}
 use Rattle.pricing.specs.Choosing.{Valley}
@@ -28,11 +28,13 @@ pub record Limits (coefficients : List ℕ) (i : ℕ) : Type 0 where
   pub c1 : c1At coefficients i ≤ 10000000
   pub c2 : c2At coefficients i ≤ 1000
   pub b : bAt coefficients i ≤ 5000
+  pub factor : factorAt coefficients i ≤ 110000000
+  pub above : 19999 * bAt coefficients i < factorAt coefficients i
 
 limits : {coefficients : List ℕ} {i : ℕ} {u : Unit} → Coefficients coefficients i u → Limits coefficients i
 limits h =
     let s = h .sound in
-    record { c0 = omega (arith, h .c0, s .c0); c1 = omega (arith, h .c1, s .c1); c2 = omega (arith, h .c2, s .c2); b = omega (arith, h .b, s .b) }
+    record { c0 = omega (arith, h .c0, s .c0); c1 = omega (arith, h .c1, s .c1); c2 = omega (arith, h .c2, s .c2); b = omega (arith, h .b, s .b); factor = omega (arith, h .factor, factor (s .losses) .greatest); above = omega (arith, h .b, h .factor, factor (s .losses) .above) }
 
 -- at an output
 pub record AtOutputRange (coefficients : List ℕ) (i p : ℕ) : Type 0 where
@@ -40,8 +42,9 @@ pub record AtOutputRange (coefficients : List ℕ) (i p : ℕ) : Type 0 where
   pub few : i < 32
   pub square : c2At coefficients i * p ≤ 10000000
   pub slope : (c1At coefficients i + c2At coefficients i * p) * p ≤ 200000000000
-  pub loss : bAt coefficients i * p ≤ 50000000
-  pub net : (100000000 - bAt coefficients i * p) * p ≤ 1000000000000
+  pub small : bAt coefficients i * p ≤ 50000000
+  pub loss : bAt coefficients i * p ≤ factorAt coefficients i
+  pub net : (factorAt coefficients i - bAt coefficients i * p) * p ≤ 1100000000000
 
 pub at-output : {coefficients : List ℕ} {i p : ℕ} → AtOutput coefficients i p → AtOutputRange coefficients i p
 at-output {coefficients} {i} {p} h =
@@ -52,8 +55,9 @@ at-output {coefficients} {i} {p} h =
       few = h .few;
       square = square;
       slope = mul-le-mul {n₂ = 20000000} {m₂ = 10000} (omega (arith, l .c1, square)) (h .output);
-      loss = mul-le-mul (l .b) (h .output);
-      net = mul-le-mul {n₂ = 100000000} {m₂ = 10000} (omega arith) (h .output);
+      small = mul-le-mul (l .b) (h .output);
+      loss = omega (arith, mul-le-mul (le-refl (bAt coefficients i)) (h .output), l .above);
+      net = mul-le-mul {n₂ = 110000000} {m₂ = 10000} (omega (arith, l .factor)) (h .output);
     }
 
 -- at a multiplier
@@ -62,9 +66,10 @@ pub record AtMultiplierRange (coefficients : List ℕ) (i m : ℕ) : Type 0 wher
   pub few : i < 32
   pub multiplier : m ≤ 65536
   pub loss : m * bAt coefficients i ≤ 327680000
+  pub price : factorAt coefficients i * m ≤ 7208960000000
 
 pub at-multiplier : {coefficients : List ℕ} {i m : ℕ} → AtMultiplier coefficients i m → AtMultiplierRange coefficients i m
-at-multiplier h = let l = limits (h .holds) in record { limits = l; few = h .few; multiplier = h .multiplier; loss = mul-le-mul (h .multiplier) (l .b) }
+at-multiplier h = let l = limits (h .holds) in record { limits = l; few = h .few; multiplier = h .multiplier; loss = mul-le-mul (h .multiplier) (l .b); price = mul-le-mul (l .factor) (h .multiplier) }
 
 -- ---- cost and net, as they are computed
 
@@ -72,11 +77,11 @@ module _ {coefficients : List ℕ} {i : ℕ} {u : Unit} (h : Coefficients coeffi
   pub cost-computed : 1 ≤ p → c0At coefficients i + (c1At coefficients i + c2At coefficients i * p) * p ≡ cost u p
   cost-computed k = rw (h .c0, h .c1, h .c2) (omega (arith, cost-running u p k))
 
-  pub net-computed : p ≤ 10000 → (100000000 - bAt coefficients i * p) * p ≡ net u p
+  pub net-computed : p ≤ 10000 → (factorAt coefficients i - bAt coefficients i * p) * p ≡ net u p
   net-computed k =
-      let loss : u .b * p ≤ 50000000 = mul-le-mul (h .sound .b) k in
-      let whole : (100000000 - u .b * p) + u .b * p ≡ 100000000 = omega arith in
-      rw (h .b) (omega (arith, net-whole (h .sound) k, ap (λ (n : ℕ). n * p) whole))
+      let loss : u .b * p ≤ u .b * 10000 = mul-le-mul (le-refl (u .b)) k in
+      let whole : (linearFactor u - u .b * p) + u .b * p ≡ linearFactor u = omega (arith, loss, factor (h .sound .losses) .above) in
+      rw (h .b, h .factor) (omega (arith, net-whole (h .sound) k, ap (λ (n : ℕ). n * p) whole))
 
 -- ---- the curve, as it is computed
 
@@ -85,16 +90,16 @@ module _ {coefficients : List ℕ} {i m : ℕ} (h : AtMultiplier coefficients i 
   r = at-multiplier h
 
   abbrev line : ℤ
-  line = toZ w64 (100000 * c1At coefficients i) -ℤ toZ w64 (100000000 * m)
+  line = toZ w64 (100000 * c1At coefficients i) -ℤ toZ w64 (factorAt coefficients i * m)
 
-  line-is : Is line (100000 * c1At coefficients i + 0) (0 + 100000000 * m)
-  line-is = is-minus (cast _ (omega (arith, r .limits .c1))) (cast _ (omega (arith, r .multiplier)))
+  line-is : Is line (100000 * c1At coefficients i + 0) (0 + factorAt coefficients i * m)
+  line-is = is-minus (cast _ (omega (arith, r .limits .c1))) (cast _ (omega (arith, r .price)))
 
   pub line-fits : SFits w64 line
-  line-fits = fits line-is (omega (arith, r .limits .c1)) (omega (arith, r .multiplier))
+  line-fits = fits line-is (omega (arith, r .limits .c1)) (omega (arith, r .price))
 
-  line-read : Is (toZ w64 (ofZ w64 line)) (100000 * c1At coefficients i) (100000000 * m)
-  line-read = record { is = omega (arith, kept line-is (omega (arith, r .limits .c1)) (omega (arith, r .multiplier))) }
+  line-read : Is (toZ w64 (ofZ w64 line)) (100000 * c1At coefficients i) (factorAt coefficients i * m)
+  line-read = record { is = omega (arith, kept line-is (omega (arith, r .limits .c1)) (omega (arith, r .price))) }
 
   abbrev computed : code.Curve
   computed =
@@ -109,10 +114,10 @@ module _ {coefficients : List ℕ} {i m : ℕ} (h : AtMultiplier coefficients i 
     record {
       square = omega (arith, r .loss, r .limits .c2);
       above = omega (arith, up-is line-read, r .limits .c1);
-      below = omega (arith, dn-is line-read, r .multiplier);
+      below = omega (arith, dn-is line-read, r .price);
       constant = omega (arith, r .limits .c0);
     },
-    λ u k. record { square = rw (k .c2, k .b); linear = rw (← k .c1) line-read; constant = rw (k .c0) },
+    λ u k. record { square = rw (k .c2, k .b); linear = record { is = omega (arith, line-read, k .c1, ap (λ (n : ℕ). n * m) (k .factor)) }; constant = rw (k .c0) },
   )
 
 -- ---- the curve
@@ -132,7 +137,7 @@ priced-standing c = refl
 -- at a running output it is the unit's priced cost
 running-curve : {m : ℕ} {u : Unit} {c : code.Curve} → Sound u → IsCurve m u c → (p : ℕ) → 1 ≤ p → p ≤ 10000 → height c p ≡ pricedCost m u p
 running-curve {m} {u} {c} s k p l h =
-    let linear : up (c .linear) * p + 100000000 * m * p ≡ 100000 * u .c1 * p + dn (c .linear) * p = omega (arith, ap (λ (n : ℕ). n * p) (k .linear .is)) in
+    let linear : up (c .linear) * p + linearFactor u * m * p ≡ 100000 * u .c1 * p + dn (c .linear) * p = omega (arith, ap (λ (n : ℕ). n * p) (k .linear .is)) in
     let square : c .square * (p * p) ≡ (100000 * u .c2 + m * u .b) * (p * p) = ap (λ (n : ℕ). n * (p * p)) (k .square) in
     same (height-is c p) (priced-is m u p) (omega (arith, cost-running u p l, ap (λ (n : ℕ). m * n) (net-whole s h), linear, square, k .constant))
 

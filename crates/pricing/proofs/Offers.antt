@@ -9,7 +9,7 @@ use Rattle.rules.specs.Lists.{greatest}
 use Rattle.rules.specs.Problem.{Offer, Problem, target}
 use Rattle.rules.specs.Choice.{pricedCost, choice, choices, dualValue}
 use Rattle.rules.proofs.Lists.{Every, every-from}
-use Rattle.rules.proofs.Integers.{Is, same}
+use Rattle.fields.proofs.Integers.{Is, same}
 use Rattle.rules.proofs.Economics.Chosen.{Chosen, Among, some-among, unique, alike, agreed, scanned}
 use Rattle.rules.proofs.Economics.Allocations.{Proper, dual-is, at-most-greatest}
 use Rattle.site.specs.Site.{first, last, high, Within, noOffer, HoldsOffer, HoldsProblem}

@@ -9,7 +9,7 @@ use lib.IntN.{ℤ}
 use lib.ListN.{getD}
 use lib.Signed.{_≤ℤ_, _<ℤ_}
 use Rattle.rules.specs.Choice.{better}
-use Rattle.rules.proofs.Integers.{up, dn}
+use Rattle.fields.proofs.Integers.{up, dn}
 use Rattle.rules.proofs.Economics.Chosen.{Chosen, alike, agreed, single, first, second}
 use Rattle.site.specs.Site.{low, high, Within, Regions}
 use Rattle.pricing.specs.declared.Curve as code

@@ -8,7 +8,7 @@ use lib.Signed.{quotZ}
 use mir.Syntax.{w64}
 use mir.Val.{toZ}
 use mir.Facts.{toZ-pos}
-use Rattle.rules.proofs.Integers.{Is, is-quot}
+use Rattle.fields.proofs.Integers.{Is, is-quot}
 
 pub is-quotient : {z : ℤ} {a b : ℕ} → Is z a b → b ≤ a → (k : ℕ) → k < 9223372036854775808 → Is (quotZ z (toZ w64 k)) ((a - b) / k) 0
 is-quotient {z} {a} {b} p h k l =

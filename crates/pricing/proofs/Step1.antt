@@ -18,7 +18,7 @@ use Rattle.rules.specs.declared.Refusal.the-variants.{NoAllocation, MultiplierO
 use Rattle.rules.specs.declared.Verdict.the-variants.{Refused}
 use Rattle.rules.specs.declared.Priced.{Priced}
 use Rattle.rules.proofs.Lists.{every-from, all-every}
-use Rattle.rules.proofs.Integers.{Is}
+use Rattle.fields.proofs.Integers.{Is}
 use Rattle.rules.proofs.Economics.Chosen.{some-among}
 use Rattle.site.specs.Site.{noOffer, HoldsOffer, HoldsProblem, Site}
 use Rattle.pricing.specs.declared.Sums as code

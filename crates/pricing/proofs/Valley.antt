@@ -7,7 +7,7 @@ use native.Mathlib.Omega.{arith}
 use lib.IntN.{ℤ}
 use lib.Signed.{_≤ℤ_}
 use Rattle.rules.specs.Choice.{better}
-use Rattle.rules.proofs.Integers.{ints}
+use Rattle.fields.proofs.Integers.{ints}
 use Rattle.rules.proofs.Economics.Chosen.{Chosen, alike, either}
 use Rattle.pricing.specs.Choosing.{Valley}
 

@@ -5,8 +5,8 @@ use mathlib.Core.Bool.{cond}
 use mathlib.Core.List.{List}
 use lib.Dec.{eqb}
 use lib.IntN.{ℤ, pos, subℕ}
-use Rattle.rules.specs.Unit.{Unit}
-use Rattle.rules.proofs.Integers.{up, dn, Is}
+use Rattle.rules.specs.Unit.{Unit, linearFactor}
+use Rattle.fields.proofs.Integers.{up, dn, Is}
 use Rattle.site.specs.Site.{Coefficients}
 use Rattle.pricing.specs.declared.Curve.{Curve}
 
@@ -21,7 +21,7 @@ pricedAt c p = cond (eqb p 0) (pos 0) (height c p)
 -- the curve of unit u at m: 100,000 × cost − m × net of a running output, by powers of p
 pub record IsCurve (m : ℕ) (u : Unit) (c : Curve) : Type 0 where
   pub square : c .square ≡ 100000 * u .c2 + m * u .b
-  pub linear : Is (c .linear) (100000 * u .c1) (100000000 * m)
+  pub linear : Is (c .linear) (100000 * u .c1) (linearFactor u * m)
   pub constant : c .constant ≡ 100000 * u .c0
 
 -- its numbers in range

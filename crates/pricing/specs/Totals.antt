@@ -25,7 +25,7 @@ pub record HoldsOutputs (q : Problem) (ps outputs : List ℕ) (s : Sums) : Type 
 -- cost and net of n units in range
 pub record Sized (n : ℕ) (s : Sums) : Type 0 where
   pub cost : s .cost ≤ 201000000000 * n
-  pub net : s .net ≤ 1000000000000 * n
+  pub net : s .net ≤ 1100000000000 * n
 
 -- each unit is given what is picked of its offer
 pub record Allocates (pick : Offer → ℕ) (coefficients ends ranges : List ℕ) (n : ℕ) (outputs : List ℕ) (s : Sums) : Type 0 where

@@ -15,7 +15,7 @@ use site::Decoded;
 // refuses the case; what then stands in the arrays means nothing.
 pub fn first_best(
     file: &[u8],
-    coefficients: &mut [u64; 128],
+    coefficients: &mut [u64; 160],
     ends: &mut [u16; 384],
     ranges: &mut [u8; 64],
     outputs: &mut [u16; 32],
@@ -48,7 +48,7 @@ pub fn price(file: &[u8], m: u32) -> Priced
     if m > 65536 {
         return Priced::Refused(Refusal::MultiplierOutOfRange);
     }
-    let mut coefficients = [0u64; 128];
+    let mut coefficients = [0u64; 160];
     let mut ends = [0u16; 384];
     let mut ranges = [0u8; 64];
     let mut outputs = [0u16; 32];

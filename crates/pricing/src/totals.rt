@@ -6,7 +6,7 @@ ghost use lib.ListN.{length};
 ghost use Rattle.rules.specs.Lists.{greatest};
 ghost use Rattle.rules.specs.Numbers.{dividedUp};
 ghost use Rattle.rules.specs.Choice.{choice};
-ghost use Rattle.rules.proofs.Integers.{Is};
+ghost use Rattle.fields.proofs.Integers.{Is};
 ghost use Rattle.pricing.specs.Totals.{Held, Evaluable, Allocates, Dualable};
 use crate::Sums;
 use crate::choosing::choose;
@@ -16,7 +16,7 @@ use crate::units::net_of;
 
 // The choices of the first `n` units at multiplier `m`, written into `outputs`.
 pub fn evaluate(
-    coefficients: &[u64; 128],
+    coefficients: &[u64; 160],
     ends: &[u16; 384],
     ranges: &[u8; 64],
     n: usize,
@@ -43,7 +43,7 @@ pub fn evaluate(
 
 // The greatest outputs of the first `n` units, written into `outputs`.
 pub fn greatest_outputs(
-    coefficients: &[u64; 128],
+    coefficients: &[u64; 160],
     ends: &[u16; 384],
     ranges: &[u8; 64],
     n: usize,

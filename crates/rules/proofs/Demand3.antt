@@ -19,7 +19,7 @@ use Rattle.rules.specs.declared.Verdict.{Verdict}
 use Rattle.rules.specs.declared.Dispatched.{Dispatched}
 use Rattle.rules.proofs.Lists.{Every, every-more, length-each}
 use Rattle.rules.proofs.Verdicts.{and-true, accepts}
-use Rattle.rules.proofs.Integers.{ints, is-pos, is-minus}
+use Rattle.fields.proofs.Integers.{ints, is-pos, is-minus}
 use Rattle.rules.proofs.Sound.{Sound}
 use Rattle.rules.proofs.Encoding.SoundFile.{sound-file, units-sound}
 use Rattle.rules.proofs.Encoding.ReplyBytes.{Fitting, length-reply, reply-spelled}

@@ -27,6 +27,7 @@ use Rattle.rules.specs.declared.Refusal.the-variants.{
   ReplyMalformed,
   RequestLengthInvalid,
   AnswerTooShort,
+  LossesOutOfRange,
 }
 use Rattle.rules.specs.declared.Dispatched.{Dispatched}
 use Rattle.rules.specs.declared.Packed.{Packed}
@@ -54,6 +55,7 @@ number-below-30 MultiplierOutOfRange = omega arith
 number-below-30 ReplyMalformed = omega arith
 number-below-30 RequestLengthInvalid = omega arith
 number-below-30 AnswerTooShort = omega arith
+number-below-30 LossesOutOfRange = omega arith
 
 -- ---- lengths
 

@@ -1,11 +1,11 @@
 pub mod Lists
 pub mod Verdicts
 pub mod Each
-pub mod Integers
 pub mod Sound
 pub mod Encoding
 pub mod Economics
 pub mod Obeyed
+pub mod Rising
 pub mod Demand3
 pub mod Replied
 pub mod Lengths

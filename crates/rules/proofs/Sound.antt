@@ -3,17 +3,32 @@ use Prim.Native.Nat.{ℕ, zero, suc, _+_, _*_, _/_, _%_, _≤_, _<_}
 use native.Mathlib.Decide.{decLt}
 use native.Mathlib.Omega.{arith}
 use mathlib.Core.Path.{_≡_, refl, _∙_}
-use mathlib.Core.Bool.{true}
+use mathlib.Core.Bool.{true, false}
 use mathlib.Core.List.{List, [], _∷_}
+use mathlib.Core.Logic.{_↔_}
 use lib.Dec.{eqb}
+use lib.IntN.{pos, _+ℤ_}
 use lib.ListN.{getD, drop}
 use lib.Seq.{getD-drop}
+use lib.Signed.{_<ℤ_}
 use borrow.Author.Tests.{eqb-true, eq-eqb}
 use Rattle.rules.specs.Unit.{Unit, Zone, zoneAt, zones}
-use Rattle.rules.specs.Refusal.{zonesAscend, unusedEdgesZero, unitVerdict}
+use Rattle.rules.specs.Refusal.{zonesAscend, unusedEdgesZero, lossesOutOfRange, unitVerdict}
+use Rattle.rules.specs.Losses.{LinearLossInRange}
 use Rattle.rules.specs.declared.Verdict.the-variants.{Accepted}
 use Rattle.rules.proofs.Lists.{Every, every-from, each-every, every-more, all-every}
 use Rattle.rules.proofs.Verdicts.{accepts}
+
+-- number 18
+pub record SoundLosses (u : Unit) : Type 0 where
+  pub range : LinearLossInRange u
+  pub rises : (u .b1 +ℤ pos (19999 * u .b)) <ℤ pos 100000000
+
+pub losses-sound : (u : Unit) → (lossesOutOfRange u ≡ false) ↔ SoundLosses u
+losses-sound u = (
+  λ e. let ((least, greatest), rises) = simp accepts at e in record { range = record { least = least; greatest = greatest }; rises = rises },
+  λ s. simp accepts ((s .range .least, s .range .greatest), s .rises),
+)
 
 pub record Sound (u : Unit) : Type 0 where
   pub zoneCount : u .zoneCount ≤ 4
@@ -22,6 +37,7 @@ pub record Sound (u : Unit) : Type 0 where
   pub c1 : u .c1 ≤ 10000000
   pub c2 : u .c2 ≤ 1000
   pub b : u .b ≤ 5000
+  pub losses : SoundLosses u
   pub least : 1 ≤ u .least
   pub range : u .least < u .greatest
   pub greatest : u .greatest ≤ 10000
@@ -56,7 +72,7 @@ module _ (u : Unit) where
   pub sound : unitVerdict u ≡ Accepted → Sound u
   unfolding unitVerdict
   sound e =
-      let ((zones, unused), ((((c0, c1), c2), b), ((((least, range), greatest), ascend), (((previous, up), down), mark)))) = simp accepts at e in
+      let ((zones, unused), ((((c0, c1), c2), b), (((loss-least, loss-greatest), rises), ((((least, range), greatest), ascend), (((previous, up), down), mark))))) = simp accepts at e in
       record {
         zoneCount = zones;
         unused = unused-zero unused;
@@ -64,6 +80,7 @@ module _ (u : Unit) where
         c1 = c1;
         c2 = c2;
         b = b;
+        losses = record { range = record { least = loss-least; greatest = loss-greatest }; rises = rises };
         least = least;
         range = range;
         greatest = greatest;
@@ -81,7 +98,10 @@ module _ (u : Unit) where
         (s .zoneCount, zero-unused (s .unused)),
         (
           (((s .c0, s .c1), s .c2), s .b),
-          ((((s .least, s .range), s .greatest), s .ascend), (((s .previous, s .up), s .down), s .mark)),
+          (
+            ((s .losses .range .least, s .losses .range .greatest), s .losses .rises),
+            ((((s .least, s .range), s .greatest), s .ascend), (((s .previous, s .up), s .down), s .mark)),
+          ),
         ),
       )
 

@@ -6,7 +6,10 @@ use mathlib.Core.Logic.{_↔_, _≢_}
 use mathlib.Core.Bool.{Bool, true, false, cond, not, _&&_, _||_, and-eq-true-iff, true≢false}
 use mathlib.Core.List.{List, [], _∷_}
 use lib.Dec.{ltb, leb, eqb}
+use lib.IntN.{ℤ}
+use lib.Signed.{leZ, ltZ, _≤ℤ_, _<ℤ_}
 use borrow.Author.Tests.{ltb-true, ltb-false, leb-true, eqb-true, eqb-false, lt-ltb, le-ltb, le-leb, eq-eqb, ne-eqb, not-false}
+use Rattle.fields.proofs.Integers.{itself, at-most, under, when-ge, when-gt, not-under, not-at-most}
 use Rattle.rules.specs.Lists.{each}
 use Rattle.rules.specs.Refusal.{_refuses_, _then_, inOrder}
 use Rattle.rules.specs.declared.Refusal.{Refusal}
@@ -41,6 +44,12 @@ eqb-is-false a b = (eqb-false a b, ne-eqb a b)
 pub eqb-is-true : (a b : ℕ) → (eqb a b ≡ true) ↔ (a ≡ b)
 eqb-is-true a b = (eqb-true a b, eq-eqb a b)
 
+pub ltZ-is-false : (x y : ℤ) → (ltZ x y ≡ false) ↔ (y ≤ℤ x)
+ltZ-is-false x y = (λ e. at-most (itself y) (itself x) (omega (arith, when-ge (itself x) (itself y) e)), λ h. not-under h)
+
+pub leZ-is-false : (x y : ℤ) → (leZ x y ≡ false) ↔ (y <ℤ x)
+leZ-is-false x y = (λ e. under (itself y) (itself x) (omega (arith, when-gt (itself x) (itself y) e)), λ h. not-at-most h)
+
 -- what holds either way of a test holds of what the test picks
 pub either-way : {A : Type 0} (P : A → Type 0) (t : Bool) {x y : A} → (t ≡ true → P x) → (t ≡ false → P y) → P (cond t x y)
 either-way P true f g = f refl
@@ -74,4 +83,4 @@ in-order-each n f =
 
 -- `simp accepts at e`, of an e that a verdict is Accepted, is the facts behind it as nested pairs; `simp accepts p` proves such an equation from them
 pub ruleset accepts =
-    (then-accepted, refuses-accepted, or-false, and-true, not-is-false, ltb-is-false, ltb-is-true, leb-is-true, eqb-is-false, eqb-is-true)
+    (then-accepted, refuses-accepted, or-false, and-true, not-is-false, ltb-is-false, ltb-is-true, leb-is-true, eqb-is-false, eqb-is-true, ltZ-is-false, leZ-is-false)

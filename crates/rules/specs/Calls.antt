@@ -10,7 +10,7 @@ use Rattle.fields.specs.Field.{bytes, bytesOfEach}
 use Rattle.rules.specs.Lists.{over}
 use Rattle.rules.specs.Unit.{Unit}
 use Rattle.rules.specs.Layout.{caseOf, unitsOfRows, rowsOfUnits, bodiesLength, fileOf}
-use Rattle.rules.specs.Refusal.{numberOf, _refuses_, _then_, inOrder, fileVerdict, unitVerdict}
+use Rattle.rules.specs.Refusal.{numberOf, _refuses_, _then_, inOrder, editionVerdict, fileVerdict, unitVerdict}
 use Rattle.rules.specs.Problem.{problemIn, unitsOf, totalNet, covers}
 use Rattle.rules.specs.Choice.{choices, dualValue}
 use Rattle.rules.specs.Bisection.{Reply, solvable, solve}
@@ -97,14 +97,14 @@ packEnds Verdict.Accepted d rows file =
 unfoldable pub packed : ℕ → List ℕ → List ℕ → PackResult
 packed d rows file = packEnds (packVerdict d rows file) d rows file
 
--- ---- unpacking (rule 13.5): a file becomes rows, a demand and a count
+-- ---- unpacking (rules 4.9, 13.5): a file of edition 1 becomes rows, a demand and a count
 
 pub record UnpackResult : Type 0 where
   pub answer : Unpacked
   pub rows : List ℕ
 
 unfoldable pub unpackVerdict : List ℕ → List ℕ → Verdict
-unpackVerdict file rows = ltb (length rows) 608 refuses BufferTooShort then fileVerdict file
+unpackVerdict file rows = ltb (length rows) 608 refuses BufferTooShort then editionVerdict 1 file then fileVerdict file
 
 unfoldable pub unpackEnds : Verdict → List ℕ → List ℕ → UnpackResult
 unpackEnds (Verdict.Refused r) file rows = record { answer = Unpacked.Refused r; rows = rows }

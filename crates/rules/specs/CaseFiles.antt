@@ -68,12 +68,12 @@ abbrev pub copies : ℕ → List ℕ → List ℕ
 copies zero list = []
 copies (suc n) list = list ++ copies n list
 
--- U5 damaged, by the number that refuses it: a head of 7 bytes (2), edition 2 (3), no unit (4), d 320,001 (5), a byte too many (6), no zone in a body of 30 bytes (7), c1 10,000,001 (8), a lower edge equal to least (9), mark 2 (10)
+-- U5 damaged, by the number that refuses it: a head of 7 bytes (2), edition 3 (3), no unit (4), d 320,001 (5), a byte too many (6), no zone in a body of 30 bytes (7), c1 10,000,001 (8), a lower edge equal to least (9), mark 2 (10)
 unfoldable pub shortHead : List ℕ
 shortHead = take 7 u5
 
 unfoldable pub otherEdition : List ℕ
-otherEdition = put 0 (0x00 ∷ 0x02 ∷ []) u5
+otherEdition = put 0 (0x00 ∷ 0x03 ∷ []) u5
 
 unfoldable pub noUnit : List ℕ
 noUnit = put 2 (0x00 ∷ 0x00 ∷ []) u5
@@ -96,6 +96,35 @@ edgeAtLeast = put 38 (0x00 ∷ 0x02 ∷ []) u5
 unfoldable pub otherMark : List ℕ
 otherMark = put 34 (0x00 ∷ 0x02 ∷ []) u5
 
+-- ---- edition 2 (rule 2.10, since S-4)
+
+-- U, d 5, in edition 2, byte by byte, with the four bytes of b1
+unfoldable pub withLinearLoss : ℕ → ℕ → ℕ → ℕ → List ℕ
+withLinearLoss k l m n =
+    0x00 ∷ 0x02 ∷ 0x00 ∷ 0x01 ∷ 0x00 ∷ 0x00 ∷ 0x00 ∷ 0x05 ∷ 0x00 ∷ 0x0C ∷ 0x00 ∷ 0x22 ∷ 0x00 ∷ 0x00 ∷ 0x00 ∷ 0x00 ∷ 0x00 ∷ 0x00
+    ∷ 0x27 ∷ 0x10 ∷ 0x03 ∷ 0xE8 ∷ 0x00 ∷ 0x00 ∷ 0x00 ∷ 0x02 ∷ 0x00 ∷ 0x0A ∷ 0x00 ∷ 0x00 ∷ 0x00 ∷ 0x00 ∷ 0x00 ∷ 0x00 ∷ 0x00 ∷ 0x00
+    ∷ 0x00 ∷ 0x01
+    ∷ k ∷ l ∷ m ∷ n ∷ 0x00 ∷ 0x04 ∷ 0x00 ∷ 0x07 ∷ []
+
+-- the two units of `site` in edition 2, byte by byte: b1 is 5,000,000 in the first and −3,000,000 in the second; d is the demand's last byte
+unfoldable pub site2 : ℕ → List ℕ
+site2 d =
+    0x00 ∷ 0x02 ∷ 0x00 ∷ 0x02 ∷ 0x00 ∷ 0x00 ∷ 0x00 ∷ d ∷ 0x00 ∷ 0x10 ∷ 0x00 ∷ 0x26 ∷ 0x00 ∷ 0x36 ∷ 0x00 ∷ 0x1E ∷ 0x00 ∷ 0x00
+    ∷ 0xC3 ∷ 0x50 ∷ 0x00 ∷ 0x00 ∷ 0x27 ∷ 0x10 ∷ 0x03 ∷ 0xE8 ∷ 0x00 ∷ 0x03 ∷ 0x00 ∷ 0x02 ∷ 0x00 ∷ 0x14 ∷ 0x00 ∷ 0x09 ∷ 0x00 ∷ 0x06
+    ∷ 0x00 ∷ 0x04 ∷ 0x00 ∷ 0x01 ∷ 0x00 ∷ 0x02 ∷ 0x00 ∷ 0x4C ∷ 0x4B ∷ 0x40 ∷ 0x00 ∷ 0x04 ∷ 0x00 ∷ 0x07 ∷ 0x00 ∷ 0x0B ∷ 0x00 ∷ 0x0D
+    ∷ 0x00 ∷ 0x00 ∷ 0x00 ∷ 0x07 ∷ 0x00 ∷ 0x00 ∷ 0x30 ∷ 0x39 ∷ 0x03 ∷ 0x84 ∷ 0x00 ∷ 0x01 ∷ 0x00 ∷ 0x03 ∷ 0x00 ∷ 0x0C ∷ 0x00 ∷ 0x00
+    ∷ 0x00 ∷ 0x02 ∷ 0x00 ∷ 0x01 ∷ 0x00 ∷ 0x00 ∷ 0x00 ∷ 0x00 ∷ 0xFF ∷ 0xD2 ∷ 0x39 ∷ 0x40 ∷ []
+
+-- units 2 evaluations 18 cost 702747 gap 25059 surplus 60999181, outputs 15 and 12: the reply to `site2 26`
+unfoldable pub site2Reply : List ℕ
+site2Reply =
+    0x00 ∷ 0x02 ∷ 0x00 ∷ 0x12 ∷ 0x00 ∷ 0x00 ∷ 0x00 ∷ 0x00 ∷ 0x00 ∷ 0x0A ∷ 0xB9 ∷ 0x1B ∷ 0x00 ∷ 0x00 ∷ 0x00 ∷ 0x00 ∷ 0x00 ∷ 0x00
+    ∷ 0x61 ∷ 0xE3 ∷ 0x00 ∷ 0x00 ∷ 0x00 ∷ 0x00 ∷ 0x03 ∷ 0xA2 ∷ 0xC6 ∷ 0x0D ∷ 0x00 ∷ 0x0F ∷ 0x00 ∷ 0x0C ∷ []
+
+-- a file of edition 1 with one unit in edition 2: its length and b1, each in its bytes
+abbrev pub inEdition2 : ℕ → List ℕ → List ℕ → List ℕ
+inEdition2 length b1 file = take 38 (put 0 (0x00 ∷ 0x02 ∷ []) (put 10 (0x00 ∷ length ∷ []) file)) ++ b1 ++ drop 38 file
+
 -- the largest b, near output 10,000: there 65,536's choices net less than the greatest output
 unfoldable pub largestLosses : Offer
 largestLosses = record { unit = unitOfRow (0 ∷ 10000000 ∷ 1000 ∷ 5000 ∷ 9998 ∷ 10000 ∷ 0 ∷ 0 ∷ 0 ∷ 1 ∷ 0 ∷ replicate 8 0); outputs = 9998 ∷ 9999 ∷ 10000 ∷ [] }
@@ -115,6 +144,7 @@ unit c1 c2 b previous up down mark lower upper =
       c1 = c1;
       c2 = c2;
       b = b;
+      b1 = pos 0;
       least = 2;
       greatest = 10;
       previous = previous;
@@ -148,6 +178,7 @@ costing c0 c1 c2 mark =
       c1 = c1;
       c2 = c2;
       b = 0;
+      b1 = pos 0;
       least = 2;
       greatest = 10;
       previous = 0;
@@ -166,6 +197,7 @@ sharedEdge =
       c1 = 10000;
       c2 = 1000;
       b = 0;
+      b1 = pos 0;
       least = 2;
       greatest = 20;
       previous = 0;

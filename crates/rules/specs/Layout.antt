@@ -1,14 +1,15 @@
--- Rules 2.1 to 3.2 of docs/SPECIFICATION.md: the planner's row and the file's body that spell a unit, and the whole file. Fields are big-endian (`fields`).
+-- Rules 2.1 to 3.5 of docs/SPECIFICATION.md: the planner's row and the file's body that spell a unit, and the whole file. Fields are big-endian (`fields`). A body is laid out by the file's edition e; what is written is edition 1.
 use Prim.Native.Nat.{ℕ, _+_, _*_, _/_}
 use mathlib.Core.Bool.{cond}
 use mathlib.Core.List.{List, [], _∷_, _++_, map}
-use lib.Dec.{ltb}
+use lib.Dec.{ltb, eqb}
+use lib.IntN.{ℤ, pos}
 use lib.ListN.{length, getD, take, drop}
-use Rattle.fields.specs.Field.{field, bytes, bytesOfEach}
+use Rattle.fields.specs.Field.{field, signedField, bytes, bytesOfEach}
 use Rattle.rules.specs.Lists.{each, sum}
 use Rattle.rules.specs.Unit.{Unit}
 
--- ---- (rules 3.1, 3.2) a row: the eleven numbers of a body before its edges, in the same order, then eight edges, of which the unused are zero
+-- ---- (rules 3.1, 3.2, 3.5) a row: the eleven numbers of a body of edition 1 before its edges, in the same order, then eight edges, of which the unused are zero; it has no b1
 
 unfoldable pub unitOfRow : List ℕ → Unit
 unitOfRow row =
@@ -17,6 +18,7 @@ unitOfRow row =
       c1 = getD row 1 0;
       c2 = getD row 2 0;
       b = getD row 3 0;
+      b1 = pos 0;
       least = getD row 4 0;
       greatest = getD row 5 0;
       previous = getD row 6 0;
@@ -45,19 +47,27 @@ unfoldable pub rowsOfUnits : List Unit → List ℕ
 rowsOfUnits [] = []
 rowsOfUnits (u ∷ us) = rowOfUnit u ++ rowsOfUnits us
 
--- ---- a body: the table of rule 2.6
+-- ---- a body of edition e: the table of rule 2.6
+
+-- (rule 2.10, since S-4) edition 2 has b1 in the four bytes from 26 on, and the edges behind it; in edition 1 the edges stand there, and b1 is 0
+abbrev pub linearLoss : ℕ → List ℕ → ℤ
+linearLoss e body = cond (eqb e 2) (signedField body 26 4) (pos 0)
+
+abbrev pub edgesStart : ℕ → ℕ
+edgesStart e = cond (eqb e 2) 30 26
 
 -- edge k of a body with z zones; the unused ones are zero
-unfoldable pub edgeOfBody : List ℕ → ℕ → ℕ → ℕ
-edgeOfBody body z k = cond (ltb k (2 * z)) (field body (26 + 2 * k) 2) 0
+unfoldable pub edgeOfBody : ℕ → List ℕ → ℕ → ℕ → ℕ
+edgeOfBody e body z k = cond (ltb k (2 * z)) (field body (edgesStart e + 2 * k) 2) 0
 
-unfoldable pub unitOfBody : List ℕ → Unit
-unitOfBody body =
+unfoldable pub unitOfBody : ℕ → List ℕ → Unit
+unitOfBody e body =
     record {
       c0 = field body 0 4;
       c1 = field body 4 4;
       c2 = field body 8 2;
       b = field body 10 2;
+      b1 = linearLoss e body;
       least = field body 12 2;
       greatest = field body 14 2;
       previous = field body 16 2;
@@ -65,13 +75,14 @@ unitOfBody body =
       down = field body 20 2;
       mark = field body 22 2;
       zoneCount = field body 24 2;
-      edges = each 8 (edgeOfBody body (field body 24 2));
+      edges = each 8 (edgeOfBody e body (field body 24 2));
     }
 
 -- (rule 2.7) how long a body with z zones is
-abbrev pub bodyLength : ℕ → ℕ
-bodyLength z = 26 + 4 * z
+abbrev pub bodyLength : ℕ → ℕ → ℕ
+bodyLength e z = edgesStart e + 4 * z
 
+-- the body of edition 1, which has no b1
 unfoldable pub bodyOfUnit : Unit → List ℕ
 bodyOfUnit u =
     bytes 4 (u .c0) ++ bytes 4 (u .c1) ++ bytes 2 (u .c2) ++ bytes 2 (u .b) ++ bytes 2 (u .least) ++ bytes 2 (u .greatest)
@@ -102,7 +113,7 @@ body file i = take (size file i) (drop (offset file i) file)
 
 -- unit i of a file
 abbrev pub unitAt : List ℕ → ℕ → Unit
-unitAt file i = unitOfBody (body file i)
+unitAt file i = unitOfBody (edition file) (body file i)
 
 -- A case is a dispatch problem's data: the demand and the units.
 pub record Case : Type 0 where
@@ -112,10 +123,12 @@ pub record Case : Type 0 where
 unfoldable pub caseOf : List ℕ → Case
 caseOf file = record { demand = demand file; units = each (count file) (unitAt file) }
 
+-- ---- a file of edition 1, as packing writes it
+
 -- the entries of units whose bodies start at a place
 unfoldable pub contentsFrom : ℕ → List Unit → List ℕ
 contentsFrom at [] = []
-contentsFrom at (u ∷ us) = bytes 2 at ++ bytes 2 (bodyLength (u .zoneCount)) ++ contentsFrom (at + bodyLength (u .zoneCount)) us
+contentsFrom at (u ∷ us) = bytes 2 at ++ bytes 2 (bodyLength 1 (u .zoneCount)) ++ contentsFrom (at + bodyLength 1 (u .zoneCount)) us
 
 unfoldable pub bodiesOf : List Unit → List ℕ
 bodiesOf [] = []
@@ -123,7 +136,7 @@ bodiesOf (u ∷ us) = bodyOfUnit u ++ bodiesOf us
 
 -- how long the bodies are together
 abbrev pub bodiesLength : List Unit → ℕ
-bodiesLength us = sum (map (λ u. bodyLength (u .zoneCount)) us)
+bodiesLength us = sum (map (λ u. bodyLength 1 (u .zoneCount)) us)
 
 unfoldable pub fileOf : ℕ → List Unit → List ℕ
 fileOf d us = bytes 2 1 ++ bytes 2 (length us) ++ bytes 4 d ++ contentsFrom (8 + 4 * length us) us ++ bodiesOf us

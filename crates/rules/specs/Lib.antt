@@ -8,8 +8,10 @@ pub mod Choice
 pub mod Bisection
 pub mod Calls
 pub mod Undoing
+pub mod Losses
 pub mod Promise
 pub mod Cases
 pub mod CaseFiles
 pub mod Table
 pub mod TableOfRefusals
+pub mod TableOfEditions

@@ -1,9 +1,11 @@
--- Rules 4.1 to 4.8 of docs/SPECIFICATION.md: the refusals, their numbers, and the checks of a file and of a unit in their order. (The order of each call as a whole is in `Calls`, of the Modbus view in `modbus/specs/View`.)
+-- Rules 4.1 to 4.10 of docs/SPECIFICATION.md: the refusals, their numbers, and the checks of a file and of a unit in their order. (The order of each call as a whole is in `Calls`, of the Modbus view in `modbus/specs/View`.)
 use Prim.Native.Nat.{ℕ, zero, suc, _+_, _*_}
 use mathlib.Core.Bool.{Bool, cond, not, _&&_, _||_}
 use mathlib.Core.List.{List, [], _∷_}
 use lib.Dec.{ltb, leb, eqb}
+use lib.IntN.{pos, negℤ, _+ℤ_}
 use lib.ListN.{length, drop}
+use lib.Signed.{leZ, ltZ}
 use Rattle.rules.specs.Lists.{each, all}
 use Rattle.rules.specs.Unit.{Unit, Zone, zones}
 use Rattle.rules.specs.Layout.{unitOfBody, bodyLength, edition, count, demand, offset, size, body}
@@ -26,6 +28,7 @@ use Rattle.rules.specs.declared.Refusal.the-variants.{
   ReplyMalformed,
   RequestLengthInvalid,
   AnswerTooShort,
+  LossesOutOfRange,
 }
 use Rattle.rules.specs.declared.Verdict.{Verdict}
 use Rattle.rules.specs.declared.Verdict.the-variants.{Accepted, Refused}
@@ -51,6 +54,7 @@ numberOf MultiplierOutOfRange = 14
 numberOf ReplyMalformed = 15
 numberOf RequestLengthInvalid = 16
 numberOf AnswerTooShort = 17
+numberOf LossesOutOfRange = 18
 
 -- what checking finds, as a number: 0 where nothing is refused
 abbrev pub numberOfVerdict : Verdict → ℕ
@@ -71,10 +75,15 @@ inOrder (v ∷ vs) = v then inOrder vs
 
 -- ---- head (rule 2.2)
 
+-- by the newest edition that a call takes: 2, but 1 in unpacking (rule 4.9, since S-4)
+unfoldable pub editionVerdict : ℕ → List ℕ → Verdict
+editionVerdict newest file =
+    ltb (length file) 8 refuses FileTooShort
+    then (ltb (edition file) 1 || ltb newest (edition file)) refuses EditionUnknown
+
 unfoldable pub headVerdict : List ℕ → Verdict
 headVerdict file =
-    ltb (length file) 8 refuses FileTooShort
-    then not (eqb (edition file) 1) refuses EditionUnknown
+    editionVerdict 2 file
     then (ltb (count file) 1 || ltb 32 (count file)) refuses CountOutOfRange
     then ltb 320000 (demand file) refuses DemandOutOfRange
 
@@ -84,11 +93,13 @@ abbrev pub start : List ℕ → ℕ → ℕ
 start file zero = 8 + 4 * count file
 start file (suc i) = offset file i + size file i
 
-abbrev pub legalSize : ℕ → Bool
-legalSize l = eqb l 26 || eqb l 30 || eqb l 34 || eqb l 38 || eqb l 42
+-- 26, 30, 34, 38 or 42; in edition 2 30, 34, 38, 42 or 46
+abbrev pub legalSize : ℕ → ℕ → Bool
+legalSize e l =
+    eqb l (bodyLength e 0) || eqb l (bodyLength e 1) || eqb l (bodyLength e 2) || eqb l (bodyLength e 3) || eqb l (bodyLength e 4)
 
 abbrev pub entryFits : List ℕ → ℕ → Bool
-entryFits file i = eqb (offset file i) (start file i) && legalSize (size file i)
+entryFits file i = eqb (offset file i) (start file i) && legalSize (edition file) (size file i)
 
 unfoldable pub contentsVerdict : List ℕ → Verdict
 contentsVerdict file =
@@ -106,12 +117,17 @@ zonesAscend below (z ∷ zs) above = ltb below (z .lower) && ltb (z .lower) (z .
 abbrev pub unusedEdgesZero : Unit → Bool
 unusedEdgesZero u = all (λ e. eqb e 0) (drop (2 * u .zoneCount) (u .edges))
 
--- what each number from 7 to 10 refuses in a unit
+-- what each of the numbers 7, 8, 18, 9 and 10 refuses in a unit
 abbrev pub zoneCountInvalid : Unit → Bool
 zoneCountInvalid u = ltb 4 (u .zoneCount) || not (unusedEdgesZero u)
 
 abbrev pub coefficientOutOfRange : Unit → Bool
 coefficientOutOfRange u = ltb 1000000000 (u .c0) || ltb 10000000 (u .c1) || ltb 1000 (u .c2) || ltb 5000 (u .b)
+
+-- (rule 2.11, since S-4) b1 out of range, or a net that does not rise up to output 10,000 (`Losses`)
+abbrev pub lossesOutOfRange : Unit → Bool
+lossesOutOfRange u =
+    ltZ (u .b1) (negℤ (pos 10000000)) || ltZ (pos 10000000) (u .b1) || leZ (pos 100000000) (u .b1 +ℤ pos (19999 * u .b))
 
 abbrev pub limitsInvalid : Unit → Bool
 limitsInvalid u =
@@ -125,15 +141,16 @@ unfoldable pub unitVerdict : Unit → Verdict
 unitVerdict u =
     zoneCountInvalid u refuses ZoneCountInvalid
     then coefficientOutOfRange u refuses CoefficientOutOfRange
+    then lossesOutOfRange u refuses LossesOutOfRange
     then limitsInvalid u refuses LimitsInvalid
     then rampOrMarkOutOfRange u refuses RampOrMarkOutOfRange
 
-unfoldable pub bodyVerdict : List ℕ → Verdict
-bodyVerdict s =
-    let u = unitOfBody s in
-    (ltb 4 (u .zoneCount) || not (eqb (length s) (bodyLength (u .zoneCount)))) refuses ZoneCountInvalid then unitVerdict u
+unfoldable pub bodyVerdict : ℕ → List ℕ → Verdict
+bodyVerdict e s =
+    let u = unitOfBody e s in
+    (ltb 4 (u .zoneCount) || not (eqb (length s) (bodyLength e (u .zoneCount)))) refuses ZoneCountInvalid then unitVerdict u
 
--- ---- (rule 4.8) an accepted file: nothing from 2 to 10 refuses it
+-- ---- (rule 4.8) an accepted file, of either edition: nothing from 2 to 10, nor 18, refuses it
 unfoldable pub fileVerdict : List ℕ → Verdict
 fileVerdict file =
-    headVerdict file then contentsVerdict file then inOrder (each (count file) (λ i. bodyVerdict (body file i)))
+    headVerdict file then contentsVerdict file then inOrder (each (count file) (λ i. bodyVerdict (edition file) (body file i)))

@@ -81,7 +81,7 @@ refusals =
     record { call = dispatchInto u5 (replicate 91 255); result = refuses 1 (replicate 91 255) }
     -- dispatch accepts a head of 7 bytes
     ∷ record { call = dispatch shortHead; result = refuses 2 buffer }
-    -- dispatch accepts edition 2
+    -- dispatch accepts edition 3
     ∷ record { call = dispatch otherEdition; result = refuses 3 buffer }
     -- dispatch accepts no unit
     ∷ record { call = dispatch noUnit; result = refuses 4 buffer }
@@ -103,7 +103,7 @@ refusals =
     ∷ record { call = price u5 65537; result = refuses 14 [] }
     -- pricing accepts a head of 7 bytes
     ∷ record { call = price shortHead 0; result = refuses 2 [] }
-    -- pricing accepts edition 2
+    -- pricing accepts edition 3
     ∷ record { call = price otherEdition 0; result = refuses 3 [] }
     -- pricing accepts no unit
     ∷ record { call = price noUnit 0; result = refuses 4 [] }
@@ -125,7 +125,7 @@ refusals =
     ∷ record { call = unpackInto u5 (replicate 607 9); result = refuses 1 (replicate 607 9) }
     -- unpacking accepts a head of 7 bytes
     ∷ record { call = unpackInto shortHead rowsBuffer; result = refuses 2 rowsBuffer }
-    -- unpacking accepts edition 2
+    -- unpacking accepts edition 3
     ∷ record { call = unpackInto otherEdition rowsBuffer; result = refuses 3 rowsBuffer }
     -- unpacking accepts no unit
     ∷ record { call = unpackInto noUnit rowsBuffer; result = refuses 4 rowsBuffer }

@@ -1,4 +1,4 @@
--- Rules 16.4 to 16.6 (demand 2: packing and unpacking undo each other) and 16.15 (a zone is obeyed or its file refused) of docs/SPECIFICATION.md, as statements. (They are proved in proofs/Encoding/Undo and proofs/Obeyed.)
+-- Rules 16.4 to 16.6 (demand 2: packing and unpacking undo each other) and 16.15 (a zone is obeyed or its file refused) of docs/SPECIFICATION.md, as statements. (They are proved in proofs/Encoding/Undo and proofs/Obeyed.) Files of edition 1 are the only ones that pack and unpack; the zones are those of both editions.
 use Prim.Native.Nat.{ℕ, _+_, _*_, _/_, _≤_, _<_}
 use mathlib.Core.Bool.{false}
 use mathlib.Core.List.{List}
@@ -44,11 +44,19 @@ PackingUndoesUnpacking =
 abbrev pub twoBytes : List ℕ → ℕ → ℕ
 twoBytes s at = 256 * getD s at 0 + getD s (at + 1) 0
 
--- (rule 16.15) for every file, every unit i and every zone k that its bytes spell: the file is refused, or no output strictly between the zone's edges is permitted
-abbrev pub ZoneObeyedOrFileRefused : Type 0
-ZoneObeyedOrFileRefused =
-    (file : List ℕ) (i k : ℕ)
+-- a file is refused, or of every unit i and every zone k that its bytes spell, the edges of a body from a place on, no output strictly between the zone's edges is permitted
+abbrev pub ObeysZonesFrom : ℕ → List ℕ → Type 0
+ObeysZonesFrom at file =
+    ((r : Refusal) × (fileVerdict file ≡ Verdict.Refused r))
+    ⊎ ((i k p : ℕ)
     → i < count file
     → k < twoBytes (body file i) 24
-    → ((r : Refusal) × (fileVerdict file ≡ Verdict.Refused r))
-    ⊎ ((p : ℕ) → twoBytes (body file i) (26 + 4 * k) < p → p < twoBytes (body file i) (28 + 4 * k) → permitted (unitAt file i) p ≡ false)
+    → twoBytes (body file i) (at + 4 * k) < p
+    → p < twoBytes (body file i) (at + 2 + 4 * k)
+    → permitted (unitAt file i) p ≡ false)
+
+-- (rule 16.15) every file: of edition 1 with its edges from byte 26 of a body on, of edition 2 (since S-4) from byte 30 on; any other is refused
+pub record ZoneObeyedOrFileRefused (file : List ℕ) : Type 0 where
+  pub edition1 : twoBytes file 0 ≡ 1 → ObeysZonesFrom 26 file
+  pub edition2 : twoBytes file 0 ≡ 2 → ObeysZonesFrom 30 file
+  pub other : (twoBytes file 0 ≡ 1 → ⊥) → (twoBytes file 0 ≡ 2 → ⊥) → (r : Refusal) × (fileVerdict file ≡ Verdict.Refused r)

@@ -3,15 +3,18 @@ use Prim.Native.Nat.{ℕ, _+_, _*_, _-_}
 use mathlib.Core.Bool.{Bool, true, cond, not, _&&_}
 use mathlib.Core.List.{List}
 use lib.Dec.{ltb, leb, eqb}
+use lib.IntN.{ℤ, pos, _-ℤ_}
 use lib.ListN.{getD}
 use Rattle.rules.specs.Lists.{each, all}
+use Rattle.rules.specs.Numbers.{natural}
 
--- A unit is a generating unit (a set): the nineteen numbers of a row, by name. Outputs are in steps, the resolution of 0.1 MW.
+-- A unit is a generating unit (a set): the nineteen numbers of a row, and b1, by name. Outputs are in steps, the resolution of 0.1 MW.
 pub record Unit : Type 0 where
   pub c0 : ℕ  -- cost coefficients: constant, linear, quadratic
   pub c1 : ℕ
   pub c2 : ℕ
-  pub b : ℕ  -- loss coefficient: the unit's own B coefficient
+  pub b : ℕ  -- quadratic loss coefficient: the unit's own B coefficient
+  pub b1 : ℤ  -- linear loss coefficient: the unit's B0 coefficient (since S-4); 0 in a row and in edition 1
   pub least : ℕ  -- limits of the running outputs
   pub greatest : ℕ
   pub previous : ℕ  -- previous output and ramp limits
@@ -58,7 +61,11 @@ permitted u p = cond (eqb p 0) (eqb (u .mark) 0) (runningOutput u p)
 unfoldable pub cost : Unit → ℕ → ℕ
 cost u p = cond (eqb p 0) 0 (u .c0 + u .c1 * p + u .c2 * p * p)
 
+-- (rule 7.1) what a step nets before quadratic losses: 100,000,000 − b1 (since S-4)
+unfoldable pub linearFactor : Unit → ℕ
+linearFactor u = natural (pos 100000000 -ℤ u .b1)
+
 -- (rule 7.1) the net of a unit: its output after losses, in hundred-millionths of a step
--- (The difference of naturals stops at 0; in an accepted file it never does: `Quantities.net-whole`.)
+-- (The differences stop at 0; in an accepted file neither does: `Quantities.factor-whole`, `Quantities.net-whole`.)
 unfoldable pub net : Unit → ℕ → ℕ
-net u p = 100000000 * p - u .b * p * p
+net u p = linearFactor u * p - u .b * p * p

@@ -8,7 +8,7 @@ pub enum Refusal {
     BufferTooShort,
     // A file under 8 bytes.
     FileTooShort,
-    // An edition that is not 1.
+    // An edition that the call does not take: neither 1 nor 2, in unpacking not 1.
     EditionUnknown,
     // A number of units outside 1 to 32.
     CountOutOfRange,
@@ -38,6 +38,8 @@ pub enum Refusal {
     RequestLengthInvalid,
     // A buffer under 252 bytes for a view's answer.
     AnswerTooShort,
+    // b1 out of range, or losses so large that net does not rise with the output.
+    LossesOutOfRange,
 }
 
 pub fn number(r: Refusal) -> u32
@@ -61,6 +63,7 @@ pub fn number(r: Refusal) -> u32
         Refusal::ReplyMalformed => 15,
         Refusal::RequestLengthInvalid => 16,
         Refusal::AnswerTooShort => 17,
+        Refusal::LossesOutOfRange => 18,
     }
 }
 

@@ -142,7 +142,7 @@ fn main() {
     io::read_full(STDIN_FILENO, &mut head);
     let records = fields::read_u32(&head, 0);
     let mut counts = [0u64; 480];
-    let mut kinds = [0u64; 32];
+    let mut kinds = [0u64; 64];
     let mut given = io::buffer();
     let mut bytes = io::buffer();
     let mut numbers = number_buffer();

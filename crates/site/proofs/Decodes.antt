@@ -116,7 +116,7 @@ module _ {file : List ℕ} {n : ℕ} {coefficients ends ranges : List ℕ} {perm
             unserved = λ _. record { unit = i; below = h; none = rw (← x) (w .none s) };
           }
 
-  module _ (b : BodiesNamed file n) where
+  module _ {e : ℕ} (b : BodiesNamed file e n) where
     verdict : {v : Verdict} → inOrder (each n (verdictAt file)) ≡ v → fileVerdict file ≡ v
     verdict e =
         file-bodies file (b .head) (b .contents) ∙ ap (λ (k : ℕ). inOrder (each k (verdictAt file))) (sym (b .units)) ∙ e

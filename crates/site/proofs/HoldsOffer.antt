@@ -51,7 +51,7 @@ module _ {ends ends′ : List ℕ} {f l : ℕ} (b : Same (2 * f) (2 * l + 2) end
   )
 
 -- a unit depends on its own places only
-module _ {coefficients ends ranges coefficients′ ends′ ranges′ : List ℕ} (i : ℕ) (a : Same (4 * i) (4 * i + 4) coefficients coefficients′) (b : Same (2 * (6 * i)) (2 * (6 * i) + 12) ends ends′) (c : Same (2 * i) (2 * i + 2) ranges ranges′) where
+module _ {coefficients ends ranges coefficients′ ends′ ranges′ : List ℕ} (i : ℕ) (a : Same (5 * i) (5 * i + 5) coefficients coefficients′) (b : Same (2 * (6 * i)) (2 * (6 * i) + 12) ends ends′) (c : Same (2 * i) (2 * i + 2) ranges ranges′) where
   pub holds-same : (o : Offer) → HoldsOffer coefficients ends ranges i o → HoldsOffer coefficients′ ends′ ranges′ i o
   holds-same o h =
       let first-same : first ranges′ i ≡ first ranges i = c .equal (2 * i) (omega arith) (omega arith) in
@@ -62,10 +62,11 @@ module _ {coefficients ends ranges coefficients′ ends′ ranges′ : List ℕ}
         unit =
             record {
               sound = h .unit .sound;
-              c0 = a .equal (4 * i) (omega arith) (omega arith) ∙ h .unit .c0;
-              c1 = a .equal (4 * i + 1) (omega arith) (omega arith) ∙ h .unit .c1;
-              c2 = a .equal (4 * i + 2) (omega arith) (omega arith) ∙ h .unit .c2;
-              b = a .equal (4 * i + 3) (omega arith) (omega arith) ∙ h .unit .b;
+              c0 = a .equal (5 * i) (omega arith) (omega arith) ∙ h .unit .c0;
+              c1 = a .equal (5 * i + 1) (omega arith) (omega arith) ∙ h .unit .c1;
+              c2 = a .equal (5 * i + 2) (omega arith) (omega arith) ∙ h .unit .c2;
+              b = a .equal (5 * i + 3) (omega arith) (omega arith) ∙ h .unit .b;
+              factor = a .equal (5 * i + 4) (omega arith) (omega arith) ∙ h .unit .factor;
             };
         from = rw first-same (h .from);
         to = rw last-same (h .to);

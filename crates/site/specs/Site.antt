@@ -3,8 +3,9 @@ use Prim.Native.Nat.{ℕ, _+_, _*_, _≤_, _<_}
 use mathlib.Core.Path.{_≡_}
 use mathlib.Core.List.{List, []}
 use mathlib.Core.Logic.{_↔_}
+use lib.IntN.{pos}
 use lib.ListN.{length, getD}
-use Rattle.rules.specs.Unit.{Unit}
+use Rattle.rules.specs.Unit.{Unit, linearFactor}
 use Rattle.rules.specs.Refusal.{fileVerdict}
 use Rattle.rules.specs.Problem.{Offer, Problem, target, problemIn}
 use Rattle.rules.specs.Calls.{caseVerdict}
@@ -30,18 +31,21 @@ first ranges i = getD ranges (2 * i) 0
 abbrev pub last : List ℕ → ℕ → ℕ
 last ranges i = getD ranges (2 * i + 1) 0
 
--- the coefficients of unit i: constant, linear and quadratic cost, and loss
+-- the coefficients of unit i: constant, linear and quadratic cost, quadratic loss, and the linear factor of net
 abbrev pub c0At : List ℕ → ℕ → ℕ
-c0At coefficients i = getD coefficients (4 * i) 0
+c0At coefficients i = getD coefficients (5 * i) 0
 
 abbrev pub c1At : List ℕ → ℕ → ℕ
-c1At coefficients i = getD coefficients (4 * i + 1) 0
+c1At coefficients i = getD coefficients (5 * i + 1) 0
 
 abbrev pub c2At : List ℕ → ℕ → ℕ
-c2At coefficients i = getD coefficients (4 * i + 2) 0
+c2At coefficients i = getD coefficients (5 * i + 2) 0
 
 abbrev pub bAt : List ℕ → ℕ → ℕ
-bAt coefficients i = getD coefficients (4 * i + 3) 0
+bAt coefficients i = getD coefficients (5 * i + 3) 0
+
+abbrev pub factorAt : List ℕ → ℕ → ℕ
+factorAt coefficients i = getD coefficients (5 * i + 4) 0
 
 -- they are those of u, which is sound
 pub record Coefficients (coefficients : List ℕ) (i : ℕ) (u : Unit) : Type 0 where
@@ -50,6 +54,7 @@ pub record Coefficients (coefficients : List ℕ) (i : ℕ) (u : Unit) : Type 0 
   pub c1 : c1At coefficients i ≡ u .c1
   pub c2 : c2At coefficients i ≡ u .c2
   pub b : bAt coefficients i ≡ u .b
+  pub factor : factorAt coefficients i ≡ linearFactor u
 
 -- ---- regions
 
@@ -94,6 +99,7 @@ noOffer =
             c1 = 0;
             c2 = 0;
             b = 0;
+            b1 = pos 0;
             least = 0;
             greatest = 0;
             previous = 0;

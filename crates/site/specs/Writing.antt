@@ -6,7 +6,7 @@ use mathlib.Core.List.{List, []}
 use mathlib.Core.Logic.{_↔_}
 use lib.ListN.{getD}
 use Rattle.rules.specs.Unit.{Unit, permitted}
-use Rattle.rules.specs.Layout.{count}
+use Rattle.rules.specs.Layout.{edition, count}
 use Rattle.rules.specs.Refusal.{headVerdict, contentsVerdict}
 use Rattle.rules.specs.Problem.{Offer, offer}
 use Rattle.rules.specs.declared.Verdict.{Verdict}
@@ -59,7 +59,7 @@ pub record Writable (u : Unit) (i : ℕ) : Type 0 where
 
 pub record CoefficientsWritten (u : Unit) (i : ℕ) (before after : List ℕ) : Type 0 where
   pub holds : Coefficients after i u
-  pub kept : KeptOutside (4 * i) (4 * i + 4) before after
+  pub kept : KeptOutside (5 * i) (5 * i + 5) before after
 
 pub record RangeWritten (i first′ last′ : ℕ) (before after : List ℕ) : Type 0 where
   pub first : first after i ≡ first′
@@ -74,8 +74,9 @@ pub record UnitWritten (u : Unit) (i : ℕ) (coefficients ends ranges coefficien
 
 -- ---- the bodies
 
--- a file of n units whose head and contents are accepted
-pub record BodiesNamed (file : List ℕ) (n : ℕ) : Type 0 where
+-- a file of edition e and n units whose head and contents are accepted
+pub record BodiesNamed (file : List ℕ) (e n : ℕ) : Type 0 where
+  pub edition : e ≡ edition file
   pub head : headVerdict file ≡ Verdict.Accepted
   pub contents : contentsVerdict file ≡ Verdict.Accepted
   pub units : n ≡ count file

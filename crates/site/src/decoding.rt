@@ -1,6 +1,8 @@
 // Checks and decodes a case file, each body read once. What writes an array takes it as a slice: so its length is known to the proof.
+ghost use mathlib.Core.Path.{_≡_};
 ghost use Prim.Native.Nat.{_+_, _*_, _≤_, _<_};
 ghost use lib.ListN.{length};
+ghost use Rattle.rules.specs.Unit.{linearFactor};
 ghost use Rattle.rules.proofs.Sound.{Sound};
 ghost use Rattle.unit.specs.UnitHeld.{unitHeld};
 ghost use Rattle.site.specs.Site.{Decodes};
@@ -11,16 +13,26 @@ use rules::Refusal;
 use rules::Verdict;
 use unit::Unit;
 
+// What a step of output nets before quadratic losses: 100,000,000 − b1.
+fn linear_factor(u: Unit) -> u64
+    requires { ⌜ Sound (unitHeld u) ⌝ }
+    ensures { λ r. ⌜ r ≡ linearFactor (unitHeld u) ⌝ }
+{
+    (100000000 - u.b1 as i64) as u64
+}
+
 // Writes the coefficients of unit `i`.
 fn write_coefficients(u: Unit, i: usize, coefficients: &mut [u64])
-    requires { ⌜ Sound (unitHeld u) × (4 * i + 4 ≤ length (now coefficients)) ⌝ }
+    requires { ⌜ Sound (unitHeld u) × (5 * i + 5 ≤ length (now coefficients)) ⌝ }
     ensures { λ _. ⌜ CoefficientsWritten (unitHeld u) i (now (coefficients .entry)) (now (coefficients .exit)) ⌝ }
 {
     let Unit { c0, c1, c2, b, .. } = u;
-    coefficients[4 * i] = c0 as u64;
-    coefficients[4 * i + 1] = c1 as u64;
-    coefficients[4 * i + 2] = c2 as u64;
-    coefficients[4 * i + 3] = b as u64;
+    let k = 5 * i;
+    coefficients[k] = c0 as u64;
+    coefficients[k + 1] = c1 as u64;
+    coefficients[k + 2] = c2 as u64;
+    coefficients[k + 3] = b as u64;
+    coefficients[k + 4] = linear_factor(u);
 }
 
 // Writes the first and the last region of unit `i`.
@@ -36,7 +48,7 @@ fn write_range(i: usize, first: usize, last: usize, ranges: &mut [u8])
 fn write_unit(
     u: Unit,
     i: usize,
-    coefficients: &mut [u64; 128],
+    coefficients: &mut [u64; 160],
     ends: &mut [u16; 384],
     ranges: &mut [u8; 64],
 ) -> bool
@@ -56,22 +68,23 @@ fn write_unit(
 // Checks and decodes the bodies of a file whose head and contents are accepted.
 fn decode_bodies(
     file: &[u8],
+    edition: u16,
     n: usize,
-    coefficients: &mut [u64; 128],
+    coefficients: &mut [u64; 160],
     ends: &mut [u16; 384],
     ranges: &mut [u8; 64],
 ) -> Decoded
-    requires { ⌜ BodiesNamed (now file) n ⌝ }
+    requires { ⌜ BodiesNamed (now file) edition n ⌝ }
     ensures { λ r. ⌜ Decodes (now (file .entry)) (now (coefficients .exit)) (now (ends .exit)) (now (ranges .exit)) r ⌝ }
 {
     let mut permitted = true;
     let mut i = 0;
     while i < n {
         let body = casefile::body_of(file, i);
-        if !casefile::body_fits(body) {
+        if !casefile::body_fits(body, edition) {
             return Decoded::Refused(Refusal::ZoneCountInvalid);
         }
-        let u = casefile::read_body(body);
+        let u = casefile::read_body(body, edition);
         let verdict = unit::check_numbers(u);
         if let Verdict::Refused(r) = verdict {
             return Decoded::Refused(r);
@@ -93,7 +106,7 @@ fn decode_bodies(
 // Checks and decodes a file. A unit without a permitted output is refused once every body is checked.
 pub fn decode(
     file: &[u8],
-    coefficients: &mut [u64; 128],
+    coefficients: &mut [u64; 160],
     ends: &mut [u16; 384],
     ranges: &mut [u8; 64],
 ) -> Decoded
@@ -103,10 +116,11 @@ pub fn decode(
     if let Verdict::Refused(r) = head {
         return Decoded::Refused(r);
     }
+    let edition = fields::read_u16(file, 0);
     let n = fields::read_u16(file, 2) as usize;
     let contents = casefile::check_contents(file, n);
     if let Verdict::Refused(r) = contents {
         return Decoded::Refused(r);
     }
-    decode_bodies(file, n, coefficients, ends, ranges)
+    decode_bodies(file, edition, n, coefficients, ends, ranges)
 }

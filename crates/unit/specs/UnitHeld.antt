@@ -9,6 +9,7 @@ unitHeld u =
       c1 = u .c1;
       c2 = u .c2;
       b = u .b;
+      b1 = u .b1;
       least = u .least;
       greatest = u .greatest;
       previous = u .previous;

@@ -1,4 +1,4 @@
-// A unit and its checks, refusals 7 to 10. They serve the bodies of a file and the planner's rows alike.
+// A unit and its checks, refusals 7 to 10 and 18. They serve the bodies of a file and the planner's rows alike.
 ghost use mathlib.Core.Path.{_≡_};
 ghost use mathlib.Core.Bool.{false};
 ghost use Prim.Native.Nat.{_≤_};
@@ -6,17 +6,18 @@ ghost use lib.Dec.{eqb};
 ghost use lib.ListN.{drop};
 ghost use Rattle.rules.specs.Lists.{all};
 ghost use Rattle.rules.specs.Unit.{zones};
-ghost use Rattle.rules.specs.Refusal.{zonesAscend, zoneCountInvalid, coefficientOutOfRange, limitsInvalid, rampOrMarkOutOfRange, unitVerdict};
+ghost use Rattle.rules.specs.Refusal.{zonesAscend, zoneCountInvalid, coefficientOutOfRange, lossesOutOfRange, limitsInvalid, rampOrMarkOutOfRange, unitVerdict};
 ghost use Rattle.unit.specs.UnitHeld.{unitHeld};
 use rules::Refusal;
 use rules::Verdict;
 
-// A unit as the nineteen numbers of a row.
+// A unit as the nineteen numbers of a row, and b1, which is 0 in a row.
 pub struct Unit {
     pub c0: u32,
     pub c1: u32,
     pub c2: u32,
     pub b: u32,
+    pub b1: i32,
     pub least: u32,
     pub greatest: u32,
     pub previous: u32,
@@ -71,6 +72,20 @@ fn coefficient_out_of_range(u: Unit) -> bool
         return true;
     }
     b > 5000
+}
+
+// Refusal 18: b1 out of range, or losses so large that net does not rise with the output.
+fn losses_out_of_range(u: Unit) -> bool
+    ensures { λ r. ⌜ r ≡ lossesOutOfRange (unitHeld u) ⌝ }
+{
+    let Unit { b, b1, .. } = u;
+    if b1 < -10000000 {
+        return true;
+    }
+    if 10000000 < b1 {
+        return true;
+    }
+    100000000 <= b1 as i64 + (19999 * b as u64) as i64
 }
 
 // Whether the zones lie between least and greatest output, apart and in order.
@@ -155,6 +170,9 @@ pub fn check_numbers(u: Unit) -> Verdict
 {
     if coefficient_out_of_range(u) {
         return Verdict::Refused(Refusal::CoefficientOutOfRange);
+    }
+    if losses_out_of_range(u) {
+        return Verdict::Refused(Refusal::LossesOutOfRange);
     }
     if limits_invalid(u) {
         return Verdict::Refused(Refusal::LimitsInvalid);

@@ -7,7 +7,7 @@ use mathlib.Core.List.{List, [], _∷_, _++_, append-assoc, append-nil}
 use lib.ListN.{length, getD}
 use Rattle.rules.specs.Lists.{each, over}
 use Rattle.rules.specs.Unit.{Unit}
-use Rattle.rules.specs.Layout.{body, unitAt, rowOfUnit, rowsOfUnits}
+use Rattle.rules.specs.Layout.{edition, body, unitAt, rowOfUnit, rowsOfUnits}
 use Rattle.rules.proofs.Lists.{each-last, each-getD}
 use Rattle.rules.proofs.Encoding.Rows.{length-row}
 use Rattle.rules.proofs.Encoding.Body.{body-eight}
@@ -28,4 +28,4 @@ rows-more f i = rw (add-one, each-last i f) (rows-snoc (each i f) (f i))
 pub rows-next : {s₀ s : List ℕ} (file : List ℕ) (i : ℕ) (row t : List ℕ) → Front s₀ (rowsOfUnits (each i (unitAt file))) s (19 * i) → row ≡ rowOfUnit (unitAt file i) → t ≡ over row (lent (19 * i) s) → Front s₀ (rowsOfUnits (each (i + 1) (unitAt file))) (givenBack (19 * i) s t) (19 * (i + 1))
 rows-next file i row t f r e =
     let n : 19 * (i + 1) ≡ 19 * i + 19 = omega arith in
-    rw (n, rows-more (unitAt file) i, ← r) (front-tail f t row 19 (ap length r ∙ length-row (unitAt file i) (body-eight (body file i))) e)
+    rw (n, rows-more (unitAt file) i, ← r) (front-tail f t row 19 (ap length r ∙ length-row (unitAt file i) (body-eight (edition file) (body file i))) e)

@@ -6,7 +6,7 @@ use lib.ListN.{length}
 use borrow.Author.Tests.{lt-ltb, le-ltb}
 use Rattle.rules.specs.Lists.{each, over}
 use Rattle.rules.specs.Layout.{unitAt, caseOf, rowsOfUnits, count, demand}
-use Rattle.rules.specs.Refusal.{fileVerdict}
+use Rattle.rules.specs.Refusal.{editionVerdict, fileVerdict}
 use Rattle.rules.specs.Calls.{unpackVerdict, unpackEnds, unpacked}
 use Rattle.rules.specs.declared.Refusal.{Refusal}
 use Rattle.rules.specs.declared.Refusal.the-variants.{BufferTooShort}
@@ -20,11 +20,15 @@ module _ (file rows : List ℕ) where
   unpacked-short h = rw (lt-ltb (length rows) 608 h)
 
   module _ (long : 608 ≤ length rows) where
-    pub unpacked-refused : {r : Refusal} → fileVerdict file ≡ Refused r → unpacked file rows ≡ record { answer = Unpacked.Refused r; rows = rows }
+    pub unpacked-edition : {r : Refusal} → editionVerdict 1 file ≡ Refused r → unpacked file rows ≡ record { answer = Unpacked.Refused r; rows = rows }
     unfolding unpacked unpackVerdict unpackEnds
-    unpacked-refused e = rw (le-ltb (length rows) 608 long, e)
+    unpacked-edition e = rw (le-ltb (length rows) 608 long, e)
+
+    pub unpacked-refused : {r : Refusal} → editionVerdict 1 file ≡ Accepted → fileVerdict file ≡ Refused r → unpacked file rows ≡ record { answer = Unpacked.Refused r; rows = rows }
+    unfolding unpacked unpackVerdict unpackEnds
+    unpacked-refused one e = rw (le-ltb (length rows) 608 long, one, e)
 
     -- the rows are those of the case's units
-    pub unpacked-read : fileVerdict file ≡ Accepted → unpacked file rows ≡ record { answer = Unpacked.Read (demand file) (count file); rows = over (rowsOfUnits (each (count file) (unitAt file))) rows }
+    pub unpacked-read : editionVerdict 1 file ≡ Accepted → fileVerdict file ≡ Accepted → unpacked file rows ≡ record { answer = Unpacked.Read (demand file) (count file); rows = over (rowsOfUnits (each (count file) (unitAt file))) rows }
     unfolding unpacked unpackVerdict unpackEnds caseOf
-    unpacked-read e = rw (le-ltb (length rows) 608 long, e, length-each (count file) (unitAt file))
+    unpacked-read one e = rw (le-ltb (length rows) 608 long, one, e, length-each (count file) (unitAt file))

@@ -1,4 +1,4 @@
-// Unpacking: the planner's rows of a case file.
+// Unpacking: the planner's rows of a case file of edition 1. (A row has no place for b1.)
 ghost use mathlib.Core.Path.{_≡_};
 ghost use Prim.Native.Nat.{_*_, _≤_};
 ghost use lib.ListN.{length};
@@ -8,6 +8,7 @@ ghost use Rattle.rules.specs.Refusal.{fileVerdict};
 ghost use Rattle.rules.specs.Calls.{unpacked};
 ghost use Rattle.unit.specs.UnitHeld.{unitHeld};
 use casefile::check;
+use casefile::check_edition;
 use casefile::count;
 use casefile::demand;
 use casefile::read_unit;
@@ -77,6 +78,10 @@ pub fn unpack(file: &[u8], rows: &mut [u32]) -> Unpacked
 {
     if rows.len() < 608 {
         return Unpacked::Refused(Refusal::BufferTooShort);
+    }
+    let edition = check_edition(file, 1);
+    if let Verdict::Refused(refusal) = edition {
+        return Unpacked::Refused(refusal);
     }
     let verdict = check(file);
     if let Verdict::Refused(refusal) = verdict {

@@ -7,7 +7,7 @@ use mathlib.Core.Path.{_≡_, ap}
 use Rattle.dispatch.proofs.main.Statement.{statement}
 use Rattle.dispatch.proofs.main.Tie as tie
 
-file-long : (c : tie.After-read-input) → length (c .read-input .last .0) ≡ 1481
+file-long : (c : tie.After-read-input) → length (c .read-input .last .0) ≡ 1609
 file-long c = search needs
 
 out-long : (c : tie.After-answer) → length (c .answer .last .1 .0) ≡ 2048

@@ -15,7 +15,7 @@ use Rattle.rules.specs.Unit.{cost, net}
 use Rattle.rules.specs.Problem.{totalCost, totalNet, Offer, Problem, unitsOf, target}
 use Rattle.rules.specs.Choice.{pricedCost, choice, leastPricedCost, choices, selected, dualValue}
 use Rattle.rules.proofs.Lists.{Every, Pairwise, pairwise-more, pairwise-map}
-use Rattle.rules.proofs.Integers.{ints, Is, is-pos, is-add}
+use Rattle.fields.proofs.Integers.{ints, Is, is-pos, is-add}
 use Rattle.rules.proofs.Sound.{Sound}
 use Rattle.rules.proofs.Economics.Chosen.{Chosen, Among, some-among, Ascends, scanned}
 use Rattle.rules.proofs.Economics.Quantities.{priced-is, net-monotone}

@@ -9,7 +9,7 @@ use lib.IntN.{ℤ}
 use lib.ListN.{length}
 use lib.Signed.{_≤ℤ_, leZ}
 use Rattle.rules.specs.Choice.{better, leastFrom, choiceOf}
-use Rattle.rules.proofs.Integers.{ints, itself, when-le, when-gt}
+use Rattle.fields.proofs.Integers.{ints, itself, when-le, when-gt}
 
 -- r is a candidate, none costs less, and none that costs the same is greater
 pub record Chosen (f : ℕ → ℤ) (Candidate : ℕ → Type 0) (r : ℕ) : Type 0 where

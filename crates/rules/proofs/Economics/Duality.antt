@@ -7,7 +7,7 @@ use native.Mathlib.Omega.{arith}
 use lib.IntN.{ℤ, pos}
 use lib.Signed.{_≤ℤ_}
 use Rattle.rules.specs.Numbers.{dividedUp}
-use Rattle.rules.proofs.Integers.{Is, is-pos, at-most}
+use Rattle.fields.proofs.Integers.{Is, is-pos, at-most}
 use Rattle.rules.proofs.Economics.Rounding.{divided-at-most, divided-rises, divided-exact}
 
 -- ---- products of two orders

@@ -8,7 +8,7 @@ use lib.IntN.{ℤ}
 use lib.Signed.{leZ, _≤ℤ_, ≤ℤ-refl}
 use Rattle.rules.specs.Numbers.{greatestAt}
 use Rattle.rules.proofs.Verdicts.{either-way}
-use Rattle.rules.proofs.Integers.{ints, itself, when-le, when-gt}
+use Rattle.fields.proofs.Integers.{ints, itself, when-le, when-gt}
 
 -- what holds of a number and of each of a list holds of each of both
 pub each-more : (P : ℕ → Type 0) {n : ℕ} {ms : List ℕ} → P n → ((m : ℕ) → List·Memᴰ m ms → P m) → (m : ℕ) → List·Memᴰ m (n ∷ ms) → P m

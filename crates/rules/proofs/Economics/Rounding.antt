@@ -6,7 +6,7 @@ use native.Mathlib.Omega.{arith}
 use lib.IntN.{ℤ, pos, negsuc, negℤ}
 use lib.Signed.{_≤ℤ_}
 use Rattle.rules.specs.Numbers.{dividedUp}
-use Rattle.rules.proofs.Integers.{up, dn, Is, up-is, dn-is, ints}
+use Rattle.fields.proofs.Integers.{up, dn, Is, up-is, dn-is, ints}
 
 -- the negative of a natural
 is-negative : (n : ℕ) → Is (negℤ (pos n)) 0 n

@@ -13,7 +13,7 @@ use borrow.Author.Tests.{leb-true, leb-false, eqb-true}
 use Rattle.rules.specs.Numbers.{greatestAt}
 use Rattle.rules.specs.Bisection.{Found, step4, step3, search}
 use Rattle.rules.proofs.Verdicts.{either-way}
-use Rattle.rules.proofs.Integers.{ints}
+use Rattle.fields.proofs.Integers.{ints}
 use Rattle.rules.proofs.Economics.Greatest.{each-more, greatest-of}
 use Rattle.rules.proofs.Economics.Duality.{Relaxation, floorAt, costs-least, zero-costs-least, net-rises, cost-rises, weak-duality, floor-falls, floor-rises, equal-net, floor-zero-not-negative}
 

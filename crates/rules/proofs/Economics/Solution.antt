@@ -15,18 +15,14 @@ use Rattle.rules.specs.Choice.{selected, dualValue, floor, greatestFloor
 use Rattle.rules.specs.Bisection.{Found, greatestOutputs, solvable, found, replyOf, solve}
 use Rattle.rules.specs.Promise.{Permitted, Covering, costLessGap, ReplyPromise}
 use Rattle.rules.proofs.Lists.{Every}
-use Rattle.rules.proofs.Integers.{up, dn, is-pos, is-minus, up-is, same, itself, ints}
+use Rattle.fields.proofs.Integers.{up, dn, is-pos, is-minus, up-is, same, itself, ints}
 use Rattle.rules.proofs.Sound.{Sound}
 use Rattle.rules.proofs.Economics.Allocations.{Given, Proper, relaxation, selected-tied, greatest-given, greatest-net}
+use Rattle.rules.proofs.Economics.Quantities.{natural-up}
 use Rattle.rules.proofs.Economics.Search.{Searched, searched, below-first}
 use Rattle.rules.proofs.Economics.Solvable.{units-of-problem, given-allocation, allocation-given, solvable-available, solvable-covers, case-proper}
 
 -- a gap that is not negative is exact
-pub natural-up : (z : ℤ) → natural z ≡ up z
-unfolding natural up
-natural-up (pos n) = refl
-natural-up (lib.IntN.negsuc n) = refl
-
 gap-exact : (n : ℕ) (z : ℤ) → z ≤ℤ pos n → pos n -ℤ pos (natural (pos n -ℤ z)) ≡ z
 gap-exact n z h =
     let d = is-minus (is-pos n) (itself z) in

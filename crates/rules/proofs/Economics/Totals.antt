@@ -15,7 +15,7 @@ total-cost-range [] ps s h = omega arith
 total-cost-range (u ∷ us) [] s h = omega arith
 total-cost-range (u ∷ us) (p ∷ ps) s h = omega (arith, cost-range (s .0) (h .0), total-cost-range us ps (s .1) (h .1))
 
-pub total-net-range : (us : List Unit) (ps : List ℕ) → Every Sound us → Every (λ p. p ≤ 10000) ps → totalNet us ps ≤ 1000000000000 * length us
+pub total-net-range : (us : List Unit) (ps : List ℕ) → Every Sound us → Every (λ p. p ≤ 10000) ps → totalNet us ps ≤ 1100000000000 * length us
 unfolding totalNet
 total-net-range [] ps s h = omega arith
 total-net-range (u ∷ us) [] s h = omega arith

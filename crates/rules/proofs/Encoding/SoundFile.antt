@@ -10,18 +10,19 @@ use lib.Seq.{length-take-le}
 use Rattle.fields.specs.Field.{Bytes}
 use Rattle.fields.proofs.Width.{bytes-part}
 use Rattle.rules.specs.Layout.{bodyLength, bodyOfUnit, edition, count, demand, offset, size, body, unitAt, caseOf}
-use Rattle.rules.specs.Refusal.{start, legalSize, entryFits, headVerdict, contentsVerdict, bodyVerdict, fileVerdict}
+use Rattle.rules.specs.Refusal.{start, legalSize, entryFits, editionVerdict, headVerdict, contentsVerdict, bodyVerdict, fileVerdict}
 use Rattle.rules.specs.declared.Verdict.the-variants.{Accepted}
-use Rattle.rules.proofs.Lists.{Every, every-each, every-more, all-each}
+use Rattle.rules.proofs.Lists.{Every, every-each, all-each}
 use Rattle.rules.proofs.Verdicts.{in-order-each, accepts}
 use Rattle.rules.proofs.Sound.{Sound}
-use Rattle.rules.proofs.Encoding.Body.{Packable, body-packable, body-length, body-unit-body}
+use Rattle.rules.proofs.Encoding.Body.{Packable, SoundBody, sound-body, body-packable, body-unit-body}
 
 -- ---- place by place
 
 pub record SoundHead (file : List ℕ) : Type 0 where
   pub long : 8 ≤ length file
-  pub edition-is : edition file ≡ 1
+  pub edition-least : 1 ≤ edition file
+  pub edition-greatest : edition file ≤ 2
   pub count-least : 1 ≤ count file
   pub count-greatest : count file ≤ 32
   pub demand-greatest : demand file ≤ 320000
@@ -29,25 +30,37 @@ pub record SoundHead (file : List ℕ) : Type 0 where
 pub record SoundContents (file : List ℕ) : Type 0 where
   pub room : 8 + 4 * count file ≤ length file
   pub offsets : (i : ℕ) → i < count file → offset file i ≡ start file i
-  pub sizes : (i : ℕ) → i < count file → legalSize (size file i) ≡ true
+  pub sizes : (i : ℕ) → i < count file → legalSize (edition file) (size file i) ≡ true
   pub ends : start file (count file) ≡ length file
 
 pub record SoundFile (file : List ℕ) : Type 0 where
   pub head : SoundHead file
   pub contents : SoundContents file
-  pub bodies : (i : ℕ) → i < count file → bodyVerdict (body file i) ≡ Accepted
+  pub bodies : (i : ℕ) → i < count file → bodyVerdict (edition file) (body file i) ≡ Accepted
 
 module _ (file : List ℕ) where
   pub sound-head : (headVerdict file ≡ Accepted) ↔ SoundHead file
-  unfolding headVerdict
+  unfolding headVerdict editionVerdict
   sound-head = (
     λ e.
-        let (long, (edition, ((least, greatest), demand))) = simp accepts at e in
-        record { long = long; edition-is = edition; count-least = least; count-greatest = greatest; demand-greatest = demand },
-    λ s. simp accepts (s .long, (s .edition-is, ((s .count-least, s .count-greatest), s .demand-greatest))),
+        let ((long, (first, last)), ((least, greatest), demand)) = simp accepts at e in
+        record {
+          long = long;
+          edition-least = first;
+          edition-greatest = last;
+          count-least = least;
+          count-greatest = greatest;
+          demand-greatest = demand;
+        },
+    λ s. simp accepts ((s .long, (s .edition-least, s .edition-greatest)), ((s .count-least, s .count-greatest), s .demand-greatest)),
   )
 
-  entry-fits : (i : ℕ) → (entryFits file i ≡ true) ↔ ((offset file i ≡ start file i) × (legalSize (size file i) ≡ true))
+  -- what unpacking asks besides
+  pub edition-one : (editionVerdict 1 file ≡ Accepted) ↔ ((8 ≤ length file) × (edition file ≡ 1))
+  unfolding editionVerdict
+  edition-one = (λ e. let (long, (first, last)) = simp accepts at e in (long, omega arith), λ s. simp accepts (s .0, (omega (arith, s .1), omega (arith, s .1))))
+
+  entry-fits : (i : ℕ) → (entryFits file i ≡ true) ↔ ((offset file i ≡ start file i) × (legalSize (edition file) (size file i) ≡ true))
   entry-fits i = (λ e. simp accepts at e, λ p. simp accepts p)
 
   pub sound-contents : (contentsVerdict file ≡ Accepted) ↔ SoundContents file
@@ -65,7 +78,7 @@ module _ (file : List ℕ) where
   pub sound-file : (fileVerdict file ≡ Accepted) ↔ SoundFile file
   unfolding fileVerdict
   sound-file =
-      let bodies = in-order-each (count file) (λ i. bodyVerdict (body file i)) in (
+      let bodies = in-order-each (count file) (λ i. bodyVerdict (edition file) (body file i)) in (
         λ e.
             let (head, (contents, last)) = simp accepts at e in
             record { head = sound-head .0 head; contents = sound-contents .0 contents; bodies = bodies .0 last },
@@ -93,23 +106,30 @@ module _ {file : List ℕ} (s : SoundContents file) where
       length-take-le (size file i) (drop (offset file i) file) (simp length-drop (omega (arith, body-within i h)))
 
 module _ {file : List ℕ} (s : SoundFile file) where
-  pub unit-at-packable : (i : ℕ) → i < count file → Packable (unitAt file i)
-  unit-at-packable i h = body-packable (body file i) (s .bodies i h)
+  -- every unit is sound
+  pub unit-at-sound : (i : ℕ) → i < count file → Sound (unitAt file i)
+  unit-at-sound i h = sound-body (edition file) (body file i) (s .bodies i h) .unit
 
-  pub size-at : (i : ℕ) → i < count file → size file i ≡ bodyLength (unitAt file i .zoneCount)
-  size-at i h = sym (length-body-at (s .contents) i h) ∙ body-length (body file i) (s .bodies i h)
+  -- of edition 1
+  module _ (one : edition file ≡ 1) where
+    sound-at : (i : ℕ) → i < count file → SoundBody 1 (body file i)
+    sound-at i h = sound-body 1 (body file i) (rw one at (s .bodies i h))
 
-  pub body-at : Bytes file → (i : ℕ) → i < count file → bodyOfUnit (unitAt file i) ≡ body file i
-  body-at b i h = body-unit-body (body file i) (s .bodies i h) (bytes-part file (offset file i) (size file i) b)
+    pub unit-at-packable : (i : ℕ) → i < count file → Packable (unitAt file i)
+    unit-at-packable i h = rw one (body-packable (body file i) (sound-at i h))
 
-  -- every unit of an accepted file is sound and has eight edges
-  pub units-packable : Every Packable (caseOf file .units)
-  unfolding caseOf
-  units-packable = every-each Packable (count file) (unitAt file) unit-at-packable
+    pub size-at : (i : ℕ) → i < count file → size file i ≡ bodyLength 1 (unitAt file i .zoneCount)
+    size-at i h = rw one (sym (length-body-at (s .contents) i h) ∙ sound-at i h .size)
 
-pub accepted-units : (file : List ℕ) → fileVerdict file ≡ Accepted → Every Packable (caseOf file .units)
-accepted-units file e = units-packable (sound-file file .0 e)
+    pub body-at : Bytes file → (i : ℕ) → i < count file → bodyOfUnit (unitAt file i) ≡ body file i
+    body-at b i h = rw one (body-unit-body (body file i) (sound-at i h) (bytes-part file (offset file i) (size file i) b))
 
 -- every unit of an accepted file is sound
 pub units-sound : (file : List ℕ) → fileVerdict file ≡ Accepted → Every Sound (caseOf file .units)
-units-sound file e = every-more Packable Sound (λ u p. p .sound) (caseOf file .units) (accepted-units file e)
+unfolding caseOf
+units-sound file e = every-each Sound (count file) (unitAt file) (unit-at-sound (sound-file file .0 e))
+
+-- and of one of edition 1 is one that packing can write
+pub units-packable : (file : List ℕ) → fileVerdict file ≡ Accepted → edition file ≡ 1 → Every Packable (caseOf file .units)
+unfolding caseOf
+units-packable file e one = every-each Packable (count file) (unitAt file) (unit-at-packable (sound-file file .0 e) one)

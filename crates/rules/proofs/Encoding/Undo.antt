@@ -8,7 +8,7 @@ use lib.Seq.{take-at}
 use Rattle.fields.specs.Field.{Bytes}
 use Rattle.rules.specs.Lists.{over}
 use Rattle.rules.specs.Unit.{Unit}
-use Rattle.rules.specs.Layout.{Case, count, demand, unitAt, caseOf, unitsOfRows, rowsOfUnits, fileOf}
+use Rattle.rules.specs.Layout.{Case, edition, count, demand, unitAt, caseOf, unitsOfRows, rowsOfUnits, fileOf}
 use Rattle.rules.specs.Refusal.{inOrder, unitVerdict, fileVerdict}
 use Rattle.rules.specs.Calls.{fileLength, PackResult, packVerdict, packEnds, packed, UnpackResult, unpackVerdict, unpackEnds, unpacked}
 use Rattle.rules.specs.Undoing.{PackedFileIsAccepted, UnpackingUndoesPacking, PackingUndoesUnpacking}
@@ -19,10 +19,10 @@ use Rattle.rules.specs.declared.Unpacked.{Unpacked}
 use Rattle.rules.proofs.Lists.{Every, every-both, every-more, every-map, length-each}
 use Rattle.rules.proofs.Verdicts.{in-order-accepted, accepts}
 use Rattle.rules.proofs.Sound.{sound, sound-accepted}
-use Rattle.rules.proofs.Encoding.Rows.{EightEdges, rows-units-rows, units-rows-units, length-rows, rows-eight}
+use Rattle.rules.proofs.Encoding.Rows.{InRow, rows-units-rows, units-rows-units, length-rows, rows-in-row}
 use Rattle.rules.proofs.Encoding.Body.{Packable}
-use Rattle.rules.proofs.Encoding.SoundFile.{sound-file, accepted-units}
-use Rattle.rules.proofs.Encoding.RoundTrip.{length-file, file-accepted, case-file-case, file-case-file}
+use Rattle.rules.proofs.Encoding.SoundFile.{sound-file, edition-one, units-packable}
+use Rattle.rules.proofs.Encoding.RoundTrip.{length-file, edition-read, file-accepted, case-file-case, file-case-file}
 
 -- ---- accepted rows
 
@@ -35,11 +35,11 @@ pub record SoundRows (d : ℕ) (rows buffer : List ℕ) : Type 0 where
   pub units : Every Packable (unitsOfRows rows)
   pub room : fileLength (unitsOfRows rows) ≤ length buffer
 
--- units with eight edges: each verdict is Accepted exactly if each unit is sound
-each-accepted : (us : List Unit) → Every EightEdges us → inOrder (map unitVerdict us) ≡ Accepted → Every Packable us
-each-accepted us eight e =
-    every-both (λ u. unitVerdict u ≡ Accepted) EightEdges Packable (λ u v n. record { sound = sound u v; eight = n }) us
-    (every-map (λ v. v ≡ Accepted) unitVerdict us .0 (in-order-accepted (map unitVerdict us) .0 e)) eight
+-- units that rows can hold: each verdict is Accepted exactly if each unit is sound
+each-accepted : (us : List Unit) → Every InRow us → inOrder (map unitVerdict us) ≡ Accepted → Every Packable us
+each-accepted us held e =
+    every-both (λ u. unitVerdict u ≡ Accepted) InRow Packable (λ u v n. record { sound = sound u v; row = n }) us
+    (every-map (λ v. v ≡ Accepted) unitVerdict us .0 (in-order-accepted (map unitVerdict us) .0 e)) held
 
 each-sound : (us : List Unit) → Every Packable us → inOrder (map unitVerdict us) ≡ Accepted
 each-sound us p =
@@ -60,7 +60,7 @@ module _ (d : ℕ) (rows buffer : List ℕ) where
         some = omega (arith, count-is);
         few = omega (arith, count-is);
         demand = demand;
-        units = each-accepted (unitsOfRows rows) (rows-eight rows) units;
+        units = each-accepted (unitsOfRows rows) (rows-in-row rows) units;
         room = room;
       }
 
@@ -124,37 +124,39 @@ unpack-pack d rows buffer out n e h =
     let us = unitsOfRows rows in
     let file = fileOf d us in
     let same = packed-file d rows buffer n accepted long in
-    let verdict : unpackVerdict file out ≡ Accepted = simp accepts (h, file-accepted d us (s .some) (s .few) (s .demand) (s .units)) in
+    let sound : fileVerdict file ≡ Accepted = file-accepted d us (s .some) (s .few) (s .demand) (s .units) in
+    let one = edition-one file .1 (sound-file file .0 sound .head .long, edition-read d us (s .some) (s .few) (s .demand) (s .units)) in
+    let verdict : unpackVerdict file out ≡ Accepted = simp accepts (h, (one, sound)) in
     ap (λ (f : List ℕ). unpacked f out) same ∙ unpacked-is file out verdict
     ∙ ap (λ (c : Case). read c out) (case-file-case d us (s .some) (s .few) (s .demand) (s .units))
     ∙ (λ i. record { answer = Unpacked.Read d (count-is d rows buffer i); rows = over (rows-units-rows rows (length us) (s .whole) i) out })
 
--- a file that was unpacked: packing the demand and the rows gives back the file
-module _ (file : List ℕ) (b : Bytes file) (verdict : fileVerdict file ≡ Accepted) where
+-- a file that was unpacked, of edition 1: packing the demand and the rows gives back the file
+module _ (file : List ℕ) (b : Bytes file) (verdict : fileVerdict file ≡ Accepted) (one : edition file ≡ 1) where
   abbrev us : List Unit
   us = caseOf file .units
 
   abbrev rows : List ℕ
   rows = rowsOfUnits us
 
-  eight : Every EightEdges us
-  eight = every-more Packable EightEdges (λ u p. p .eight) us (accepted-units file verdict)
+  held : Every InRow us
+  held = every-more Packable InRow (λ u p. p .row) us (units-packable file verdict one)
 
   units-again : unitsOfRows rows ≡ us
-  units-again = units-rows-units us eight
+  units-again = units-rows-units us held
 
   rows-sound : (buffer : List ℕ) → length file ≤ length buffer → SoundRows (caseOf file .demand) rows buffer
   unfolding caseOf
   rows-sound buffer h =
       let s = sound-file file .0 verdict .head in
       let n : length us ≡ count file = length-each (count file) (unitAt file) in
-      let long : length file ≡ fileLength us = ap length (sym (file-case-file file b verdict)) ∙ length-file (demand file) us (accepted-units file verdict) in
+      let long : length file ≡ fileLength us = ap length (sym (file-case-file file b verdict one)) ∙ length-file (demand file) us (units-packable file verdict one) in
       record {
-        whole = rw units-again (length-rows us eight);
+        whole = rw units-again (length-rows us held);
         some = rw units-again (omega (arith, n, s .count-least));
         few = rw units-again (omega (arith, n, s .count-greatest));
         demand = s .demand-greatest;
-        units = rw units-again (accepted-units file verdict);
+        units = rw units-again (units-packable file verdict one);
         room = rw units-again (omega arith);
       }
 
@@ -162,12 +164,13 @@ pub pack-unpack : PackingUndoesUnpacking
 unfolding unpacked unpackVerdict
 pack-unpack file out buffer d n b e h =
     let (accepted, demand-is, count-is) = unpack-read (unpackVerdict file out) file out d n e in
-    let (long, verdict) = simp accepts at accepted in
+    let (long, (head, verdict)) = simp accepts at accepted in
+    let one = edition-one file .0 head .1 in
     let rows = rowsOfUnits (caseOf file .units) in
     let same : take (19 * n) (unpacked file out .rows) ≡ rows =
     ap (λ (r : UnpackResult). take (19 * n) (r .rows)) (unpacked-is file out accepted)
-    ∙ take-at rows (drop (length rows) out) (19 * n) (length-rows (caseOf file .units) (eight file b verdict) ∙ ap (λ (m : ℕ). 19 * m) count-is) in
-    let sound : SoundRows d rows buffer = rw (← demand-is) (rows-sound file b verdict buffer h) in
-    let again : fileOf d (unitsOfRows rows) ≡ file = ap₂ fileOf (sym demand-is) (units-again file b verdict) ∙ file-case-file file b verdict in
+    ∙ take-at rows (drop (length rows) out) (19 * n) (length-rows (caseOf file .units) (held file b verdict one) ∙ ap (λ (m : ℕ). 19 * m) count-is) in
+    let sound : SoundRows d rows buffer = rw (← demand-is) (rows-sound file b verdict one buffer h) in
+    let again : fileOf d (unitsOfRows rows) ≡ file = ap₂ fileOf (sym demand-is) (units-again file b verdict one) ∙ file-case-file file b verdict one in
     ap (λ (r : List ℕ). packed d r buffer) same ∙ packed-is d rows buffer (sound-rows-accepted d rows buffer sound)
     ∙ ap (λ (f : List ℕ). wrote f buffer) again

@@ -2,7 +2,7 @@
 use mir.Syntax.{w64}
 use mir.Facts.{toZ-ofZ}
 use borrow.Author.Needs.{needs}
-use Rattle.rules.proofs.Integers.{is-same}
+use Rattle.fields.proofs.Integers.{is-same}
 use Rattle.bisection.proofs.Selecting.{selects}
 use Rattle.bisection.proofs.search.select.Statement.{statement}
 use Rattle.bisection.proofs.search.select.Tie as tie

@@ -10,7 +10,7 @@ use Rattle.casefile.proofs.checking.check_body.Statement.{statement}
 use Rattle.casefile.proofs.checking.check_body.Tie as tie
 
 -- the body passes the test
-fits : (c : tie.Else1) → BodyFits (now (c .before .before .before .args .body))
+fits : (c : tie.Else1) → BodyFits (c .before .before .before .args .edition) (now (c .before .before .before .args .body))
 fits c = c .before .body-fits .ensures .fits (not-false _ (c .if1 .left))
 
 body-fits-requires : tie.Need-body-fits-requires
@@ -23,11 +23,11 @@ read-body-requires : tie.Need-read-body-requires
 read-body-requires c κs = fits c
 
 check-numbers-requires : tie.Need-check-numbers-requires
-check-numbers-requires c κs = ap zoneCountInvalid (c .read-body .ensures) ∙ zone-count-fits _ (fits (c .before) .zones)
+check-numbers-requires c κs = ap zoneCountInvalid (c .read-body .ensures) ∙ zone-count-fits _ _ (fits (c .before) .zones)
 
 returns-2 : tie.Need-returns-2
 returns-2 c =
-    c .check-numbers .ensures ∙ ap unitVerdict (c .before .read-body .ensures) ∙ sym (body-fits _ (fits (c .before .before)))
+    c .check-numbers .ensures ∙ ap unitVerdict (c .before .read-body .ensures) ∙ sym (body-fits _ _ (fits (c .before .before)))
 
 pub check-body-spec : {M : Type 1} → statement M
 check-body-spec =

@@ -1,17 +1,36 @@
 -- `casefile::checking::legal_size` meets its contract.
-use mathlib.Core.Logic.{inl, inr}
-use mathlib.Core.Path.{sym}
+use Prim.Native.Nat.{ℕ, zero, suc, _*_, _≤_}
+use native.Mathlib.Omega.{arith}
+use mathlib.Core.Logic.{_⊎_, inl, inr}
+use mathlib.Core.Path.{_≡_, sym}
+use borrow.Author.Needs.{needs}
 use Rattle.casefile.proofs.Contents.{legal, illegal}
 use Rattle.casefile.proofs.checking.legal_size.Statement.{statement}
 use Rattle.casefile.proofs.checking.legal_size.Tie as tie
 
+zones : (z : ℕ) {d : ℕ} → z ≤ 4 → d ≡ 4 * z → (d ≡ 0) ⊎ ((d ≡ 4) ⊎ ((d ≡ 8) ⊎ ((d ≡ 12) ⊎ (d ≡ 16))))
+zones zero h e = inl e
+zones (suc zero) h e = inr (inl e)
+zones (suc (suc zero)) h e = inr (inr (inl e))
+zones (suc (suc (suc zero))) h e = inr (inr (inr (inl e)))
+zones (suc (suc (suc (suc zero)))) h e = inr (inr (inr (inr e)))
+zones (suc (suc (suc (suc (suc z))))) h e = absurd (omega arith)
+
 returns : tie.Need-returns
-returns c = sym (legal _ (c .match .keys1))
+returns c = let a = c .before .before .args in sym (illegal (a .edition) (a .size) (λ z k e. omega arith))
 
 returns-2 : tie.Need-returns-2
 returns-2 c =
+    let a = c .before .before .before .args in
+    let start = c .before .before .edges-start .ensures .0 in
+    sym (legal (a .edition) (a .size) (omega arith) (rw start at (c .match .keys1)))
+
+returns-3 : tie.Need-returns-3
+returns-3 c =
+    let a = c .before .before .before .args in
+    let start = c .before .before .edges-start .ensures .0 in
     let n = c .match .rest .1 in
-    sym (illegal _ (λ e. n (inl e)) (λ e. n (inr (inl e))) (λ e. n (inr (inr (inl e)))) (λ e. n (inr (inr (inr (inl e))))) (λ e. n (inr (inr (inr (inr e))))))
+    sym (illegal (a .edition) (a .size) (λ z k e. n (zones z k (omega arith))))
 
 pub legal-size-spec : {M : Type 1} → statement M
-legal-size-spec = tie.close (tie.spec returns returns-2)
+legal-size-spec = tie.close (tie.spec (λ c κs. search needs) returns returns-2 returns-3)

@@ -2,6 +2,10 @@
 use Prim.Native.Nat.{ℕ}
 use native.Mathlib.Omega.{arith}
 use mathlib.Core.Path.{ap, _∙_}
+use mir.Syntax.{w32}
+use mir.Val.{SFits}
+use mir.Facts.{toZ-ofZ}
+use borrow.Author.Needs.{needs}
 use denote.Ref.{now}
 use Rattle.rules.specs.Lists.{each}
 use Rattle.rules.specs.Layout.{edgeOfBody, unitOfBody}
@@ -44,13 +48,20 @@ read-word-requires-9 c κs = omega arith
 cast-read-edges : tie.Need-cast-read-edges
 cast-read-edges c = omega arith
 
+read-linear-loss-requires : tie.Need-read-linear-loss-requires
+read-linear-loss-requires c κs = omega arith
+
 read-edges-requires : tie.Need-read-edges-requires
 read-edges-requires c κs = omega arith
+
+b1-fits : (c : tie.After-read-edges) → SFits w32 (c .before .read-linear-loss .result)
+b1-fits c = search needs
 
 returns : tie.Need-returns
 unfolding unitOfBody
 returns c =
-    let zone-count = c .before in
+    let b1 = c .before in
+    let zone-count = b1 .before in
     let mark = zone-count .before in
     let down = mark .before in
     let up = down .before in
@@ -62,12 +73,14 @@ returns c =
     let c1 = c2 .before in
     let c0 = c1 .before in
     let body = now (c0 .before .before .args .body) in
+    let edition = c0 .before .before .args .edition in
     λ i.
     record {
       c0 = c0 .read-u32 .ensures i;
       c1 = c1 .read-u322 .ensures i;
       c2 = c2 .read-word .ensures i;
       b = b .read-word2 .ensures i;
+      b1 = (toZ-ofZ {w = w32} (b1-fits c) ∙ b1 .read-linear-loss .ensures) i;
       least = least .read-word3 .ensures i;
       greatest = greatest .read-word4 .ensures i;
       previous = previous .read-word5 .ensures i;
@@ -75,7 +88,7 @@ returns c =
       down = down .read-word7 .ensures i;
       mark = mark .read-word8 .ensures i;
       zoneCount = zone-count .read-word9 .ensures i;
-      edges = (c .read-edges .ensures ∙ ap (λ (z : ℕ). each 8 (edgeOfBody body z)) (zone-count .read-word9 .ensures)) i;
+      edges = (c .read-edges .ensures ∙ ap (λ (z : ℕ). each 8 (edgeOfBody edition body z)) (zone-count .read-word9 .ensures)) i;
     }
 
 pub read-body-spec : {M : Type 1} → statement M
@@ -93,6 +106,7 @@ read-body-spec =
     read-word-requires-7
     read-word-requires-8
     read-word-requires-9
+    read-linear-loss-requires
     cast-read-edges
     read-edges-requires
     returns)

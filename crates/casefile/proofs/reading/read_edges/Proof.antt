@@ -1,7 +1,8 @@
 -- `casefile::reading::read_edges` meets its contract: the first k edges are read.
 use Prim.Native.Nat.{ℕ, _+_, _≤_, _-_, _*_}
 use native.Mathlib.Omega.{arith}
-use mathlib.Core.Path.{_≡_, refl, ap, _∙_}
+use mathlib.Core.Path.{_≡_, refl, ap₂, _∙_}
+use borrow.Author.Needs.{needs}
 use denote.Ref.{now}
 use Rattle.fields.specs.Field.{field}
 use Rattle.rules.specs.Layout.{edgeOfBody}
@@ -10,10 +11,10 @@ use Rattle.casefile.proofs.reading.read_edges.Statement.{statement}
 use Rattle.casefile.proofs.reading.read_edges.Tie as tie
 
 abbrev Inv-loop : tie.InvT-loop
-Inv-loop body z edges₀ k₀ edges k = (k ≤ 2 * z) × (edges ≡ first (λ j. field body (26 + 2 * j) 2) k)
+Inv-loop body edition z start edges₀ k₀ edges k = (k ≤ 2 * z) × (edges ≡ first (λ j. field body (start + 2 * j) 2) k)
 
 abbrev μ-loop : tie.MeasureT-loop
-μ-loop body z edges₀ k₀ edges k = 2 * z - k
+μ-loop body edition z start edges₀ k₀ edges k = 2 * z - k
 
 loop-holds : tie.Need-loop-holds Inv-loop μ-loop
 loop-holds c = (omega arith, refl)
@@ -45,16 +46,18 @@ loop-less c = omega arith
 loop-again : tie.Need-loop-again Inv-loop μ-loop
 loop-again c =
     let l = c .before .before .loop in
-    let f : ℕ → ℕ = λ j. field (now (c .before .before .before .before .args .body)) (26 + 2 * j) 2 in
+    let s = c .before .before .before in
+    let f : ℕ → ℕ = λ j. field (now (s .before .before .args .body)) (s .edges-start .result + 2 * j) 2 in
     (omega arith, rw (l .inv .1, c .read-word .ensures) (first-more f (l .k) (omega arith)))
 
 returns : tie.Need-returns Inv-loop μ-loop
 unfolding edgeOfBody
 returns c =
     let l = c .before .loop in
-    let a = c .before .before .before .args in
+    let s = c .before .before in
+    let a = s .before .before .args in
     let e : l .k ≡ 2 * a .z = omega arith in
-    l .inv .1 ∙ ap (first (λ j. field (now (a .body)) (26 + 2 * j) 2)) e
+    l .inv .1 ∙ ap₂ (λ (start k : ℕ). first (λ j. field (now (a .body)) (start + 2 * j) 2) k) (s .edges-start .ensures .0) e
 
 pub read-edges-spec : {M : Type 1} → statement M
 read-edges-spec =
@@ -62,6 +65,7 @@ read-edges-spec =
     (tie.spec
     Inv-loop
     μ-loop
+    (λ c κs. search needs)
     loop-holds
     mul-loop
     mul-read-word

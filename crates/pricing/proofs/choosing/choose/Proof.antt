@@ -8,7 +8,7 @@ use mir.Val.{toZ, ofZ}
 use mir.Facts.{toZ-ofZ}
 use denote.Ref.{now}
 use borrow.Author.Needs.{needs}
-use Rattle.rules.proofs.Integers.{Is, itself, is-pos, is-same, when-lt, when-ge, at-most, under}
+use Rattle.fields.proofs.Integers.{Is, itself, is-pos, is-same, when-lt, when-ge, at-most, under}
 use Rattle.rules.proofs.Economics.Chosen.{Chosen}
 use Rattle.site.specs.Site.{high, Within}
 use Rattle.pricing.specs.Curve.{pricedAt}

@@ -10,7 +10,7 @@ use mir.Syntax.{w64}
 use mir.Val.{SFits, toZ, ofZ}
 use denote.Ref.{now}
 use borrow.Author.Needs.{needs}
-use Rattle.rules.proofs.Integers.{Is, up, dn, back, cast, is-minus, fits, kept, not-negative, size-is, when-le, when-gt, when-lt, when-ge}
+use Rattle.fields.proofs.Integers.{Is, up, dn, back, cast, is-minus, fits, kept, not-negative, size-is, when-le, when-gt, when-lt, when-ge}
 use Rattle.site.specs.Site.{low, high}
 use Rattle.pricing.proofs.Signed.{is-quotient}
 use Rattle.pricing.proofs.Heights.{vertex-valley, vertex-from, vertex-to}

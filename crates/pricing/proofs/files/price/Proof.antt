@@ -4,7 +4,7 @@ use mir.Syntax.{w64}
 use mir.Facts.{toZ-ofZ}
 use denote.Ref.{now}
 use borrow.Author.Needs.{needs}
-use Rattle.rules.proofs.Integers.{is-same}
+use Rattle.fields.proofs.Integers.{is-same}
 use Rattle.pricing.specs.Step1.{First, FindsFirst}
 use Rattle.pricing.proofs.Step1.{multiplier-refused, case-refused, dualable, valued}
 use Rattle.pricing.proofs.files.price.Statement.{statement}

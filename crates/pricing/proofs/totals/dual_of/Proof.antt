@@ -6,7 +6,7 @@ use lib.IntN.{_-ℤ_}
 use mir.Syntax.{w64}
 use mir.Val.{toZ}
 use borrow.Author.Needs.{needs}
-use Rattle.rules.proofs.Integers.{Is, is-minus, cast, fits, kept}
+use Rattle.fields.proofs.Integers.{Is, is-minus, cast, fits, kept}
 use Rattle.pricing.proofs.totals.dual_of.Statement.{statement}
 use Rattle.pricing.proofs.totals.dual_of.Tie as tie
 
@@ -14,8 +14,8 @@ module _ (c : tie.Start) where
   demanded : c .args .m * c .args .target ≤ 2097152000000000000
   demanded = mul-le-mul {n₂ = 65536} {m₂ = 32000000000000} (c .pre .multiplier) (c .pre .target)
 
-  netted : c .args .m * c .args .s .net ≤ 2097152000000000000
-  netted = mul-le-mul {n₂ = 65536} {m₂ = 32000000000000} (c .pre .multiplier) (omega (arith, c .pre .sized .net))
+  netted : c .args .m * c .args .s .net ≤ 2306867200000000000
+  netted = mul-le-mul {n₂ = 65536} {m₂ = 35200000000000} (c .pre .multiplier) (omega (arith, c .pre .sized .net))
 
   dual-is : Is (toZ w64 (100000 * c .args .s .cost + c .args .m * c .args .target) -ℤ toZ w64 (c .args .m * c .args .s .net)) (100000 * c .args .s .cost + c .args .m * c .args .target + 0) (0 + c .args .m * c .args .s .net)
   dual-is = is-minus (cast _ (omega (arith, c .pre .sized .cost, demanded))) (cast _ (omega (arith, netted)))

@@ -5,7 +5,7 @@ use lib.Dec.{lit<}
 use lib.IntN.{pos, _-ℤ_}
 use mir.Syntax.{w64}
 use mir.Val.{toZ, ofZ}
-use Rattle.rules.proofs.Integers.{Is, up, dn, back, is-pos, is-minus, is-add, is-quot, fits, kept, same, one-zero, fits-up, fits-dn, when-le, when-gt}
+use Rattle.fields.proofs.Integers.{Is, up, dn, back, is-pos, is-minus, is-add, is-quot, fits, kept, same, one-zero, fits-up, fits-dn, when-le, when-gt}
 use Rattle.pricing.proofs.Floor.{floor-is}
 use Rattle.pricing.proofs.totals.floor_of.Statement.{statement}
 use Rattle.pricing.proofs.totals.floor_of.Tie as tie

@@ -6,7 +6,7 @@ use lib.IntN.{ℤ, _+ℤ_, _*ℤ_}
 use mir.Syntax.{w64}
 use mir.Val.{SFits, toZ, ofZ}
 use borrow.Author.Needs.{needs}
-use Rattle.rules.proofs.Integers.{Is, up, dn, back, cast, is-add, is-product, fits, kept, same}
+use Rattle.fields.proofs.Integers.{Is, up, dn, back, cast, is-add, is-product, fits, kept, same}
 use Rattle.pricing.proofs.Heights.{height-is}
 use Rattle.pricing.proofs.units.priced_cost.Statement.{statement}
 use Rattle.pricing.proofs.units.priced_cost.Tie as tie

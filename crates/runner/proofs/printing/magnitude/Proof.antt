@@ -5,7 +5,7 @@ use Prim.Native.Nat.{_+_, _<_}
 use lib.IntN.{ℤ, negsuc, _-ℤ_}
 use mir.Syntax.{w64}
 use mir.Val.{toZ, ofZ}
-use Rattle.rules.proofs.Integers.{Is, up, dn, back, is-pos, is-negsuc, is-minus, fits, fits-up, fits-dn, kept, not-negative, size-is, when-lt, when-ge}
+use Rattle.fields.proofs.Integers.{Is, up, dn, back, is-pos, is-negsuc, is-minus, fits, fits-up, fits-dn, kept, not-negative, size-is, when-lt, when-ge}
 use Rattle.runner.proofs.printing.magnitude.Statement.{statement}
 use Rattle.runner.proofs.printing.magnitude.Tie as tie
 

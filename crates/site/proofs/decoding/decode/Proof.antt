@@ -36,13 +36,16 @@ enum-told c = search needs
 read-u16-requires : tie.Need-read-u16-requires
 read-u16-requires c κs = omega (arith, head-read (file (c .before .before)) (head-passed c))
 
+read-u16-requires-2 : tie.Need-read-u16-requires-2
+read-u16-requires-2 c κs = omega (arith, head-read (file (c .before .before .before)) (head-passed (c .before)))
+
 cast-n : tie.Need-cast-n
 cast-n c = search needs
 
 check-contents-requires : tie.Need-check-contents-requires
 check-contents-requires c κs =
-    let head = head-read (file (c .before .before .before)) (head-passed (c .before)) in
-    record { long = head .long; units = c .read-u16 .ensures; most = omega arith }
+    let head = head-read (file (c .before .before .before .before)) (head-passed (c .before .before)) in
+    record { long = head .long; units = c .read-u162 .ensures; most = omega arith }
 
 enum-known-contents : tie.Need-enum-known-contents
 enum-known-contents c = search needs
@@ -50,7 +53,7 @@ enum-known-contents c = search needs
 returns-2 : tie.Need-returns-2
 returns-2 c =
     let checked = c .before .before .before in
-    let passed = checked .before .before in
+    let passed = checked .before .before .before in
     contents-refused (file (passed .before .before)) (head-passed passed) (sym (checked .check-contents .ensures) ∙ c .before .contents .given .1)
 
 enum-told-2 : tie.Need-enum-told-2
@@ -60,11 +63,12 @@ decode-bodies-requires : tie.Need-decode-bodies-requires
 decode-bodies-requires c κs =
     let told = c .before .before .before in
     let checked = told .before .before in
-    let passed = checked .before .before in
+    let passed = checked .before .before .before in
     record {
       head = head-passed passed;
       contents = sym (checked .check-contents .ensures) ∙ told .enum-told2 .given .1;
-      units = checked .before .read-u16 .ensures;
+      edition = checked .before .before .read-u16 .ensures;
+      units = checked .before .read-u162 .ensures;
     }
 
 returns-3 : tie.Need-returns-3
@@ -79,6 +83,7 @@ decode-spec =
     returns
     enum-told
     read-u16-requires
+    read-u16-requires-2
     cast-n
     check-contents-requires
     enum-known-contents

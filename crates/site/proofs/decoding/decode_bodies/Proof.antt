@@ -1,7 +1,7 @@
 -- `site::decoding::decode_bodies` meets its contract. The loop keeps what `Decoding` says, and each way out is a law of it.
 use Prim.Native.Nat.{_-_}
 use native.Mathlib.Omega.{arith}
-use mathlib.Core.Path.{_≡_, ap, sym, _∙_}
+use mathlib.Core.Path.{_≡_, ap, ap₂, sym, _∙_}
 use mathlib.Core.Logic.{⊎-elim}
 use lib.ListN.{length}
 use borrow.Author.Needs.{needs}
@@ -20,10 +20,10 @@ use Rattle.site.proofs.decoding.decode_bodies.Statement.{statement}
 use Rattle.site.proofs.decoding.decode_bodies.Tie as tie
 
 abbrev Inv-loop : tie.InvT-loop
-Inv-loop file n coefficients₀ ends₀ ranges₀ permitted₀ i₀ coefficients ends ranges permitted i = Decoding file n coefficients ends ranges permitted i
+Inv-loop file e n coefficients₀ ends₀ ranges₀ permitted₀ i₀ coefficients ends ranges permitted i = Decoding file n coefficients ends ranges permitted i
 
 abbrev μ-loop : tie.MeasureT-loop
-μ-loop file n coefficients₀ ends₀ ranges₀ permitted₀ i₀ coefficients ends ranges permitted i = n - i
+μ-loop file e n coefficients₀ ends₀ ranges₀ permitted₀ i₀ coefficients ends ranges permitted i = n - i
 
 -- from body i back to the start
 abbrev entry : tie.In-loop Inv-loop μ-loop → tie.Start Inv-loop μ-loop
@@ -33,7 +33,7 @@ entry c = c .before .before .before
 inside : (c : tie.In-loop Inv-loop μ-loop) → BodyInside (now (entry c .args .file)) (c .before .loop .i)
 inside c = body-inside (now (entry c .args .file)) (entry c .pre .contents) (c .before .loop .i) (omega (arith, entry c .pre .units))
 
-fits : (c : tie.Else1 Inv-loop μ-loop) → BodyFits (now (c .before .before .body-of .result))
+fits : (c : tie.Else1 Inv-loop μ-loop) → BodyFits (entry (c .before .before .before) .args .edition) (now (c .before .before .body-of .result))
 fits c = c .before .body-fits .ensures .fits (not-false _ (c .if1 .left))
 
 abbrev body : tie.After-check-numbers Inv-loop μ-loop → tie.After-body-of Inv-loop μ-loop
@@ -41,7 +41,7 @@ body c = c .before .before .before .before
 
 told : (c : tie.After-check-numbers Inv-loop μ-loop) → verdictAt (now (entry (body c .before) .args .file)) (body c .before .before .loop .i) ≡ c .check-numbers .result
 told c =
-    sym (ap bodyVerdict (body c .body-of .ensures)) ∙ body-fits _ (fits (c .before .before))
+    sym (ap₂ bodyVerdict (entry (body c .before) .pre .edition) (body c .body-of .ensures)) ∙ body-fits _ _ (fits (c .before .before))
     ∙ sym (ap unitVerdict (c .before .read-body .ensures)) ∙ sym (c .check-numbers .ensures)
 
 -- an accepted body: its unit may be written
@@ -60,13 +60,13 @@ body-fits-requires c κs = omega (arith, ap length (c .body-of .ensures), body-l
 returns : tie.Need-returns Inv-loop μ-loop
 returns c =
     let turn = c .before .before .before in
-    decoding-refused (turn .before .loop .inv) (entry turn .pre) (omega arith) (sym (ap bodyVerdict (c .before .before .body-of .ensures)) ∙ c .before .body-fits .ensures .misfits (not-true _ (c .if1 .taken)))
+    decoding-refused (turn .before .loop .inv) (entry turn .pre) (omega arith) (sym (ap₂ bodyVerdict (entry turn .pre .edition) (c .before .before .body-of .ensures)) ∙ c .before .body-fits .ensures .misfits (not-true _ (c .if1 .taken)))
 
 read-body-requires : tie.Need-read-body-requires Inv-loop μ-loop
 read-body-requires c κs = fits c
 
 check-numbers-requires : tie.Need-check-numbers-requires Inv-loop μ-loop
-check-numbers-requires c κs = ap zoneCountInvalid (c .read-body .ensures) ∙ zone-count-fits _ (fits (c .before) .zones)
+check-numbers-requires c κs = ap zoneCountInvalid (c .read-body .ensures) ∙ zone-count-fits _ _ (fits (c .before) .zones)
 
 enum-known-verdict : tie.Need-enum-known-verdict Inv-loop μ-loop
 enum-known-verdict c = search needs
@@ -101,7 +101,7 @@ loop-again c =
     let passed = written .before .before .before .before in
     let checked = passed .before .before in
     let inv = body checked .before .before .loop .inv in
-    let unit = checked .before .read-body .ensures ∙ ap unitOfBody (body checked .body-of .ensures) in
+    let unit = checked .before .read-body .ensures ∙ ap₂ unitOfBody (entry (body checked .before) .pre .edition) (body checked .body-of .ensures) in
     ⊎-elim
     (λ w. decoding-unserved inv (omega arith) (told checked ∙ accepted passed) unit (written .write-unit .ensures) (not-true _ (w .0 .taken)) (w .1))
     (λ w. decoding-more inv (omega arith) (told checked ∙ accepted passed) unit (written .write-unit .ensures) (not-false _ (w .0 .left)) (w .1))
@@ -117,11 +117,11 @@ read-u32-requires c κs =
     let start = c .before .before .before .before in
     omega (arith, sound-head (now (start .args .file)) .0 (start .pre .head))
 
-cast-t21 : tie.Need-cast-t21 Inv-loop μ-loop
-cast-t21 c = omega arith
+cast-t22 : tie.Need-cast-t22 Inv-loop μ-loop
+cast-t22 c = omega arith
 
-mul-t22 : tie.Need-mul-t22 Inv-loop μ-loop
-mul-t22 c = omega arith
+mul-t23 : tie.Need-mul-t23 Inv-loop μ-loop
+mul-t23 c = omega arith
 
 returns-4 : tie.Need-returns-4 Inv-loop μ-loop
 returns-4 c =
@@ -149,6 +149,6 @@ decode-bodies-spec =
     loop-again
     returns-3
     read-u32-requires
-    cast-t21
-    mul-t22
+    cast-t22
+    mul-t23
     returns-4)

@@ -1,0 +1,49 @@
+-- A signed number and the number that stands for it in two's complement: each is read back from the other, shown once, over the width.
+use Prim.Native.Nat.{ℕ, suc, _+_, _-_, _*_, _^_, _≤_, _<_}
+use native.Mathlib.Decide.{decLt}
+use native.Mathlib.Omega.{arith}
+use mathlib.Core.Path.{_≡_, ap, _∙_}
+use mathlib.Core.List.{List}
+use lib.IntN.{ℤ, pos, negsuc, subℕ}
+use lib.ListN.{length}
+use borrow.Author.Tests.{lt-ltb, le-ltb}
+use Rattle.fields.specs.Field.{written, signed, unsigned, signedField}
+use Rattle.fields.proofs.Integers.{up, dn, is-negsuc, is-sub, same}
+use Rattle.fields.proofs.Width.{read-written}
+
+-- the lower half stand for themselves, the upper half for what is less by 256 ^ w
+pub signed-lower : (w n : ℕ) → 2 * n < 256 ^ w → signed w n ≡ pos n
+unfolding signed
+signed-lower w n h = rw (lt-ltb (2 * n) (256 ^ w) h)
+
+pub signed-upper : (w n : ℕ) → 256 ^ w ≤ 2 * n → signed w n ≡ subℕ n (256 ^ w)
+unfolding signed
+signed-upper w n h = rw (le-ltb (2 * n) (256 ^ w) h)
+
+-- the number that stands for what n stands for is n
+pub unsigned-signed : (w n : ℕ) → n < 256 ^ w → unsigned w (signed w n) ≡ n
+unfolding unsigned
+unsigned-signed w n h = by (decLt (2 * n) (256 ^ w))
+  where
+    upper : (k : ℕ) → k + suc n ≡ 256 ^ w → subℕ n (256 ^ w) ≡ negsuc k
+    upper k e = same (is-sub n (256 ^ w)) (is-negsuc k) (omega arith)
+
+    by : Dec (2 * n < 256 ^ w) → unsigned w (signed w n) ≡ n
+    by (yes k) = rw (signed-lower w n k)
+    by (no k) = rw (signed-upper w n (omega arith), upper (256 ^ w - suc n) (omega arith)) (omega arith)
+
+-- and a signed number of w bytes is what its number stands for
+pub signed-unsigned : (w : ℕ) (z : ℤ) → 2 * up z < 256 ^ w → 2 * dn z ≤ 256 ^ w → signed w (unsigned w z) ≡ z
+unfolding unsigned up dn
+signed-unsigned w (pos n) h k = signed-lower w n h
+signed-unsigned w (negsuc n) h k =
+    signed-upper w (256 ^ w - suc n) (omega arith) ∙ same (is-sub (256 ^ w - suc n) (256 ^ w)) (is-negsuc n) (omega arith)
+
+unsigned-fits : (w : ℕ) (z : ℤ) → 2 * up z < 256 ^ w → 2 * dn z ≤ 256 ^ w → unsigned w z < 256 ^ w
+unfolding unsigned up dn
+unsigned-fits w (pos n) h k = omega arith
+unsigned-fits w (negsuc n) h k = omega arith
+
+-- reading gives back what was written
+pub read-written-signed : (s : List ℕ) (at w : ℕ) (z : ℤ) → at + w ≤ length s → 2 * up z < 256 ^ w → 2 * dn z ≤ 256 ^ w → signedField (written s at w (unsigned w z)) at w ≡ z
+read-written-signed s at w z h j k = ap (signed w) (read-written s at w (unsigned w z) h (unsigned-fits w z j k)) ∙ signed-unsigned w z j k
