@@ -182,7 +182,7 @@ static int read_number(struct place p, struct text t, const struct quantity *q, 
 static int read_linear_loss(struct place p, struct text t, int32_t *b1)
 {
     int negative = t.length > 0 && t.at[0] == '-';
-    struct text size = {t.at + negative, t.length - (size_t)negative};
+    struct text size = {negative ? t.at + 1 : t.at, t.length - (size_t)negative};
     uint32_t number = 0;
     switch (t.length == 0 ? FINE : measure(size, &LINEAR_LOSS, &number)) {
     case FINE:

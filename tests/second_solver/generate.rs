@@ -556,9 +556,14 @@ fn largest(random: &mut Random, edition: i128) -> Vec<Call> {
 fn both_editions(random: &mut Random) -> Vec<Call> {
     let case = small_case(random, 1);
     let multiplier = near_a_tie(&case, random);
+    let [one, two] = [1, 2].map(|edition| solver::encode(&Case { edition, ..case.clone() }));
+    let answers = [&one, &two].map(|file| {
+        let mut reply = [0; 92];
+        (solver::dispatch(file, &mut reply).ok(), reply)
+    });
+    assert_eq!(answers[0], answers[1], "edition 2 with b1 0 differs");
     let mut calls = Vec::new();
-    for edition in [1, 2] {
-        let file = solver::encode(&Case { edition, ..case.clone() });
+    for file in [one, two] {
         calls.push(Call::Dispatch { file: file.clone(), room: 92 });
         calls.push(Call::Price { file, multiplier });
     }

@@ -5,14 +5,13 @@ use native.Mathlib.Numerals.{add-one}
 use native.Mathlib.Omega.{arith}
 use mathlib.Core.Path.{_≡_, ap, sym, _∙_}
 use mathlib.Core.Bool.{Bool, true, false, not, _||_, true≢false}
-use mathlib.Core.Logic.{_⊎_, inl, inr}
 use mathlib.Core.List.{List}
 use lib.Dec.{ltb, eqb}
 use lib.ListN.{length, drop, length-drop}
 use lib.Seq.{length-take-le}
 use borrow.Author.Tests.{lt-ltb, le-ltb, eq-eqb, ne-eqb}
 use Rattle.rules.specs.Lists.{each, all}
-use Rattle.rules.specs.Layout.{edgesStart, bodyLength, edition, count, offset, size, body}
+use Rattle.rules.specs.Layout.{bodyLength, edition, count, offset, size, body}
 use Rattle.rules.specs.Refusal.{_refuses_, start, legalSize, entryFits, contentsVerdict}
 use Rattle.rules.specs.declared.Refusal.the-variants.{ContentsInvalid}
 use Rattle.rules.specs.declared.Verdict.the-variants.{Accepted}
@@ -24,17 +23,7 @@ use Rattle.casefile.specs.Required.{BodyInside}
 -- ---- legal lengths
 
 module _ (e l : ℕ) where
-  -- by what the edges of a body leave behind the place where they start
-  pub legal : edgesStart e ≤ l → (l - edgesStart e ≡ 0) ⊎ ((l - edgesStart e ≡ 4) ⊎ ((l - edgesStart e ≡ 8) ⊎ ((l - edgesStart e ≡ 12) ⊎ (l - edgesStart e ≡ 16)))) → legalSize e l ≡ true
-  legal h (inl k) = simp (eq-eqb l (bodyLength e 0) (omega arith))
-  legal h (inr (inl k)) = simp (ne-eqb l (bodyLength e 0) (omega arith), eq-eqb l (bodyLength e 1) (omega arith))
-  legal h (inr (inr (inl k))) = simp (ne-eqb l (bodyLength e 0) (omega arith), ne-eqb l (bodyLength e 1) (omega arith), eq-eqb l (bodyLength e 2) (omega arith))
-  legal h (inr (inr (inr (inl k)))) =
-      simp (ne-eqb l (bodyLength e 0) (omega arith), ne-eqb l (bodyLength e 1) (omega arith), ne-eqb l (bodyLength e 2) (omega arith), eq-eqb l (bodyLength e 3) (omega arith))
-  legal h (inr (inr (inr (inr k)))) =
-      simp (ne-eqb l (bodyLength e 0) (omega arith), ne-eqb l (bodyLength e 1) (omega arith), ne-eqb l (bodyLength e 2) (omega arith), ne-eqb l (bodyLength e 3) (omega arith), eq-eqb l (bodyLength e 4) (omega arith))
-
-  -- of no number of zones
+  -- a length that no number of zones makes is not legal
   pub illegal : ((z : ℕ) → z ≤ 4 → l ≡ bodyLength e z → ⊥) → legalSize e l ≡ false
   illegal h =
       simp (

@@ -1,15 +1,17 @@
 -- A signed number and the number that stands for it in two's complement: each is read back from the other, shown once, over the width.
 use Prim.Native.Nat.{ℕ, suc, _+_, _-_, _*_, _^_, _≤_, _<_}
+use native.Mathlib.Nat.{pow-suc, add-zero}
 use native.Mathlib.Decide.{decLt}
 use native.Mathlib.Omega.{arith}
 use mathlib.Core.Path.{_≡_, ap, _∙_}
-use mathlib.Core.List.{List}
+use mathlib.Core.List.{List, [], _∷_}
 use lib.IntN.{ℤ, pos, negsuc, subℕ}
-use lib.ListN.{length}
+use lib.ListN.{length, take, drop, length-drop}
+use lib.Seq.{length-take-le}
 use borrow.Author.Tests.{lt-ltb, le-ltb}
-use Rattle.fields.specs.Field.{written, signed, unsigned, signedField}
+use Rattle.fields.specs.Field.{Bytes, numberAfter, field, written, signed, unsigned, signedField}
 use Rattle.fields.proofs.Integers.{up, dn, is-negsuc, is-sub, same}
-use Rattle.fields.proofs.Width.{read-written}
+use Rattle.fields.proofs.Width.{bytes-part, read-written, written-read}
 
 -- the lower half stand for themselves, the upper half for what is less by 256 ^ w
 pub signed-lower : (w n : ℕ) → 2 * n < 256 ^ w → signed w n ≡ pos n
@@ -47,3 +49,22 @@ unsigned-fits w (negsuc n) h k = omega arith
 -- reading gives back what was written
 pub read-written-signed : (s : List ℕ) (at w : ℕ) (z : ℤ) → at + w ≤ length s → 2 * up z < 256 ^ w → 2 * dn z ≤ 256 ^ w → signedField (written s at w (unsigned w z)) at w ≡ z
 read-written-signed s at w z h j k = ap (signed w) (read-written s at w (unsigned w z) h (unsigned-fits w z j k)) ∙ signed-unsigned w z j k
+
+-- bytes spell a number that fits
+after-fits : (n k : ℕ) (s : List ℕ) → n < 256 ^ k → Bytes s → numberAfter n s < 256 ^ (k + length s)
+unfolding numberAfter
+after-fits n k [] h b = rw (add-zero k) h
+after-fits n k (x ∷ s) h b =
+    let e : k + length (x ∷ s) ≡ suc k + length s = omega arith in
+    let wider : 256 ^ suc k ≡ 256 ^ k * 256 = pow-suc 256 k in
+    rw e (after-fits (n * 256 + x) (suc k) s (omega (arith, wider, b 0)) (λ i. b (suc i)))
+
+field-fits : (s : List ℕ) (at w : ℕ) → at + w ≤ length s → Bytes s → field s at w < 256 ^ w
+field-fits s at w h b =
+    let long : length (take w (drop at s)) ≡ w = length-take-le w (drop at s) (simp length-drop (omega arith)) in
+    let e : 0 + length (take w (drop at s)) ≡ w = omega arith in
+    rw e at (after-fits 0 0 (take w (drop at s)) (omega arith) (bytes-part s at w b))
+
+-- and writing what was read changes nothing
+pub written-read-signed : (s : List ℕ) (at w : ℕ) → at + w ≤ length s → Bytes s → written s at w (unsigned w (signedField s at w)) ≡ s
+written-read-signed s at w h b = ap (written s at w) (unsigned-signed w (field s at w) (field-fits s at w h b)) ∙ written-read s at w h b

@@ -10,14 +10,13 @@ use lib.Seq.{drop-cons}
 use borrow.Author.Tests.{lt-ltb}
 use Rattle.fields.specs.Field.{numberAfter, field}
 use Rattle.rules.specs.Unit.{Unit, zoneAt, zones, permitted, strictlyInside}
-use Rattle.rules.specs.Layout.{edgesStart, edgeOfBody, unitOfBody, bodyLength, edition, body, unitAt}
-use Rattle.rules.specs.Refusal.{fileVerdict, bodyVerdict}
+use Rattle.rules.specs.Layout.{edgesStart, edgeOfBody, unitOfBody, edition, body}
+use Rattle.rules.specs.Refusal.{fileVerdict}
 use Rattle.rules.specs.Undoing.{twoBytes, ObeysZonesFrom, ZoneObeyedOrFileRefused}
 use Rattle.rules.specs.declared.Refusal.{Refusal}
 use Rattle.rules.specs.declared.Verdict.{Verdict}
 use Rattle.rules.specs.declared.Verdict.the-variants.{Accepted, Refused}
 use Rattle.rules.proofs.Lists.{all-each, getD-each}
-use Rattle.rules.proofs.Sound.{Sound}
 use Rattle.rules.proofs.Encoding.Body.{edges-start, SoundBody, sound-body}
 use Rattle.rules.proofs.Encoding.SoundFile.{SoundHead, sound-file}
 use Rattle.rules.proofs.Economics.Outputs.{runs-permitted}

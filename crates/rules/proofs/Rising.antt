@@ -76,9 +76,9 @@ module _ (u : Unit) (none : u .b1 ≡ pos 0) where
         rises = rw none (<-out (omega arith));
       })
 
-  lossless-never : Never18 (unitVerdict u)
+  no-loss-never : Never18 (unitVerdict u)
   unfolding unitVerdict
-  lossless-never = by (zoneCountInvalid u) (coefficientOutOfRange u) (lossesOutOfRange u) (limitsInvalid u) (rampOrMarkOutOfRange u) small
+  no-loss-never = by (zoneCountInvalid u) (coefficientOutOfRange u) (lossesOutOfRange u) (limitsInvalid u) (rampOrMarkOutOfRange u) small
     where
       by : (z c l m r : Bool) → (c ≡ false → l ≡ false) → Never18 (z refuses ZoneCountInvalid then c refuses CoefficientOutOfRange then l refuses LossesOutOfRange then m refuses LimitsInvalid then r refuses RampOrMarkOutOfRange)
       by true c l m r h e = omega arith
@@ -89,7 +89,7 @@ module _ (u : Unit) (none : u .b1 ≡ pos 0) where
 
 row-never : (rows : List ℕ) (i : ℕ) → Never18 (unitVerdict (unitInRow rows i))
 unfolding unitOfRow
-row-never rows i = lossless-never (unitInRow rows i) refl
+row-never rows i = no-loss-never (unitInRow rows i) refl
 
 rows-never : (d : ℕ) (rows file : List ℕ) → Never18 (packVerdict d rows file)
 unfolding packVerdict unitsOfRows
@@ -111,7 +111,7 @@ body-never : (s : List ℕ) → Never18 (bodyVerdict 1 s)
 unfolding bodyVerdict unitOfBody
 body-never s =
     let z = unitOfBody 1 s .zoneCount in
-    next-never (ltb 4 z || not (eqb (length s) (bodyLength 1 z))) ZoneCountInvalid _ (λ k. omega arith) (lossless-never (unitOfBody 1 s) refl)
+    next-never (ltb 4 z || not (eqb (length s) (bodyLength 1 z))) ZoneCountInvalid _ (λ k. omega arith) (no-loss-never (unitOfBody 1 s) refl)
 
 head-never : (file : List ℕ) → Never18 (headVerdict file)
 unfolding headVerdict editionVerdict

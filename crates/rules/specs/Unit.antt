@@ -66,6 +66,6 @@ unfoldable pub linearFactor : Unit → ℕ
 linearFactor u = natural (pos 100000000 -ℤ u .b1)
 
 -- (rule 7.1) the net of a unit: its output after losses, in hundred-millionths of a step
--- (The differences stop at 0; in an accepted file neither does: `Quantities.factor-whole`, `Quantities.net-whole`.)
+-- (The differences stop at 0; in an accepted file neither does: `Quantities.factor`, `Quantities.net-whole`.)
 unfoldable pub net : Unit → ℕ → ℕ
 net u p = linearFactor u * p - u .b * p * p

@@ -1,7 +1,7 @@
 -- The range of every quantity of a sound unit at an output up to its greatest, and that net grows with the output. This file alone looks at what cost, net and the linear factor are made of; others cite `cost-running`, `cost-standing`, `net-is` and `factor`.
-use mathlib.Core.Path.{_≡_, refl, sym, _∙_}
+use mathlib.Core.Path.{_≡_, refl, _∙_}
 use Prim.Native.Nat.{ℕ, zero, suc, _+_, _*_, _-_, _≤_, _<_}
-use native.Mathlib.Nat.{add-zero, le-refl, mul-le-mul, mul-le-mul-right, mul-le-mul-left}
+use native.Mathlib.Nat.{add-zero, le-refl, mul-le-mul, mul-le-mul-right}
 use native.Mathlib.Omega.{arith}
 use lib.IntN.{ℤ, pos, negsuc}
 use borrow.Author.Tests.{ne-eqb}
@@ -74,7 +74,7 @@ module _ {u : Unit} (s : Sound u) {p : ℕ} (h : p ≤ 10000) where
         gross = mul-le-mul (factor (s .losses) .greatest) h;
       }
 
-  -- the loss stays below the output, so that net is a true difference
+  -- the quadratic loss stays below the rest, so that net is a true difference
   pub net-whole : net u p + u .b * p * p ≡ linearFactor u * p
   unfolding net
   net-whole = omega (arith, products .loss)

@@ -1,19 +1,19 @@
 -- A unit and its body of edition 1: each is read back from the other, and the body of a sound unit is accepted. A body of either edition that is accepted spells a sound unit.
-use Prim.Native.Nat.{ℕ, _+_, _*_, _^_, _<_, _≤_}
+use Prim.Native.Nat.{ℕ, zero, suc, _+_, _*_, _^_, _<_, _≤_}
 use native.Mathlib.Decide.{decLt}
 use native.Mathlib.Omega.{arith}
 use mathlib.Core.Path.{_≡_, refl, sym, ap, _∙_}
+use mathlib.Core.Bool.{true}
 use mathlib.Core.List.{List, [], _∷_, _++_, append-assoc, append-nil}
 use lib.Dec.{eqb}
-use lib.IntN.{pos}
 use lib.ListN.{length, getD, take, drop, drop-of-length-le}
 use lib.Seq.{take-all, length-take-le, getD-take}
-use borrow.Author.Tests.{lt-ltb, le-ltb}
+use borrow.Author.Tests.{lt-ltb, le-ltb, eq-eqb, ne-eqb}
 use Rattle.fields.specs.Field.{Bytes, field, bytesOfEach}
 use Rattle.rules.specs.Lists.{each}
 use Rattle.rules.specs.Unit.{Unit}
 use Rattle.rules.specs.Layout.{edgesStart, edgeOfBody, unitOfBody, bodyLength, bodyOfUnit}
-use Rattle.rules.specs.Refusal.{unitVerdict, bodyVerdict}
+use Rattle.rules.specs.Refusal.{legalSize, bodyVerdict}
 use Rattle.rules.specs.declared.Verdict.the-variants.{Accepted}
 use Rattle.rules.proofs.Lists.{Every, every-from, each-same, each-take, take-each}
 use Rattle.rules.proofs.Verdicts.{either-way, accepts}
@@ -98,7 +98,7 @@ module _ (u : Unit) (p : Packable u) where
         c1 = head-read 1 (omega arith) i;
         c2 = head-read 2 (omega arith) i;
         b = head-read 3 (omega arith) i;
-        b1 = sym (p .row .lossless) i;
+        b1 = sym (p .row .no-linear-loss) i;
         least = head-read 4 (omega arith) i;
         greatest = head-read 5 (omega arith) i;
         previous = head-read 6 (omega arith) i;
@@ -115,6 +115,17 @@ module _ (u : Unit) (p : Packable u) where
       simp accepts ((rw unit-body-unit (p .sound .zoneCount), rw unit-body-unit length-body), rw unit-body-unit (sound-accepted u (p .sound)))
 
 -- ---- back
+
+-- the length that so many zones make is legal
+pub legal : (e l z : ℕ) → z ≤ 4 → l ≡ bodyLength e z → legalSize e l ≡ true
+legal e l zero h k = simp (eq-eqb l (bodyLength e 0) k)
+legal e l (suc zero) h k = simp (ne-eqb l (bodyLength e 0) (omega arith), eq-eqb l (bodyLength e 1) k)
+legal e l (suc (suc zero)) h k = simp (ne-eqb l (bodyLength e 0) (omega arith), ne-eqb l (bodyLength e 1) (omega arith), eq-eqb l (bodyLength e 2) k)
+legal e l (suc (suc (suc zero))) h k =
+    simp (ne-eqb l (bodyLength e 0) (omega arith), ne-eqb l (bodyLength e 1) (omega arith), ne-eqb l (bodyLength e 2) (omega arith), eq-eqb l (bodyLength e 3) k)
+legal e l (suc (suc (suc (suc zero)))) h k =
+    simp (ne-eqb l (bodyLength e 0) (omega arith), ne-eqb l (bodyLength e 1) (omega arith), ne-eqb l (bodyLength e 2) (omega arith), ne-eqb l (bodyLength e 3) (omega arith), eq-eqb l (bodyLength e 4) k)
+legal e l (suc (suc (suc (suc (suc z))))) h k = absurd (omega arith)
 
 -- in either edition the edges lie behind the zone count, and not far
 pub edges-start : (e : ℕ) → (26 ≤ edgesStart e) × (edgesStart e ≤ 30)
@@ -140,7 +151,7 @@ sound-body e s a =
 module _ (s : List ℕ) (p : SoundBody 1 s) where
   pub body-packable : Packable (unitOfBody 1 s)
   unfolding unitOfBody
-  body-packable = record { sound = p .unit; row = record { eight = body-eight 1 s; lossless = refl } }
+  body-packable = record { sound = p .unit; row = record { eight = body-eight 1 s; no-linear-loss = refl } }
 
   used-again : edgesInUse (unitOfBody 1 s) ≡ each (2 * unitOfBody 1 s .zoneCount) (λ k. field s (26 + 2 * k) 2)
   unfolding unitOfBody edgeOfBody

@@ -3,7 +3,6 @@ use Prim.Native.Nat.{ℕ, zero, suc, _+_, _*_, _≤_, _<_}
 use native.Mathlib.Nat.{zero-add, add-zero, add-assoc}
 use native.Mathlib.Omega.{arith}
 use mathlib.Core.Path.{_≡_, refl, sym, ap, ap₂, _∙_}
-use mathlib.Core.Bool.{true}
 use mathlib.Core.List.{List, [], _∷_, _++_, append-assoc}
 use lib.ListN.{length, getD, take, drop, length-append, take-append-drop}
 use lib.Seq.{take-at, drop-at, drop-drop, drop-length}
@@ -12,12 +11,12 @@ use Rattle.fields.proofs.Width.{length-bytes}
 use Rattle.rules.specs.Lists.{each}
 use Rattle.rules.specs.Unit.{Unit}
 use Rattle.rules.specs.Layout.{unitOfBody, bodyLength, bodyOfUnit, edition, count, demand, offset, size, body, unitAt, caseOf, contentsFrom, bodiesOf, bodiesLength, fileOf}
-use Rattle.rules.specs.Refusal.{start, legalSize, fileVerdict}
+use Rattle.rules.specs.Refusal.{start, fileVerdict}
 use Rattle.rules.specs.Calls.{fileLength}
 use Rattle.rules.specs.declared.Verdict.the-variants.{Accepted}
 use Rattle.rules.proofs.Lists.{Every, every-at, length-each, each-same, each-from, each-getD}
 use Rattle.rules.proofs.Encoding.Pieces.{Piece, Fits, spell, pieces, read-piece, read-behind, spell-pieces}
-use Rattle.rules.proofs.Encoding.Body.{Packable, length-body, unit-body-unit, body-accepted}
+use Rattle.rules.proofs.Encoding.Body.{Packable, legal, length-body, unit-body-unit, body-accepted}
 use Rattle.rules.proofs.Encoding.SoundFile.{SoundFile, sound-file, start-next, size-at, body-at}
 
 -- ---- where the bodies stand
@@ -105,14 +104,6 @@ body-read p at (u ∷ us) d (suc i) e h q =
 
 -- ---- a file that was written is accepted, and read as what was written
 
-legal : (z : ℕ) → z ≤ 4 → legalSize 1 (bodyLength 1 z) ≡ true
-legal zero h = refl
-legal (suc zero) h = refl
-legal (suc (suc zero)) h = refl
-legal (suc (suc (suc zero))) h = refl
-legal (suc (suc (suc (suc zero)))) h = refl
-legal (suc (suc (suc (suc (suc z))))) h = absurd (omega arith)
-
 abbrev headOf : ℕ → List Unit → List Piece
 headOf d us = record { width = 2; value = 1 } ∷ record { width = 2; value = length us } ∷ record { width = 4; value = d } ∷ []
 
@@ -180,7 +171,7 @@ module _ (d : ℕ) (us : List Unit) (some : 1 ≤ length us) (few : length us �
             record {
               room = omega (arith, count-read);
               offsets = λ i h. offset-read e i (at i h) ∙ sym (start-read e i (omega (arith, count-read)));
-              sizes = λ i h. rw (edition-read, size-read e i (at i h)) (legal (getD us i e .zoneCount) (every-at Packable us i e every (at i h) .sound .zoneCount));
+              sizes = λ i h. rw (edition-read, size-read e i (at i h)) (legal 1 (bodyLength 1 (getD us i e .zoneCount)) (getD us i e .zoneCount) (every-at Packable us i e every (at i h) .sound .zoneCount) refl);
               ends = rw count-read (start-read e (length us) (omega arith) ∙ start-from-last (8 + 4 * length us) us ∙ sym long);
             };
         bodies = λ i h. rw (edition-read, body-written e i (at i h)) (body-accepted (getD us i e) (every-at Packable us i e every (at i h)));

@@ -14,7 +14,7 @@ use Rattle.rules.proofs.Lists.{Every, each-same, each-take, every-each}
 -- a unit that a row can hold: it has eight edges, and no linear loss
 pub record InRow (u : Unit) : Type 0 where
   pub eight : length (u .edges) ≡ 8
-  pub lossless : u .b1 ≡ pos 0
+  pub no-linear-loss : u .b1 ≡ pos 0
 
 -- ---- one row
 
@@ -34,7 +34,7 @@ unit-row-unit u e =
       c1 = u .c1;
       c2 = u .c2;
       b = u .b;
-      b1 = sym (e .lossless) i;
+      b1 = sym (e .no-linear-loss) i;
       least = u .least;
       greatest = u .greatest;
       previous = u .previous;
@@ -51,7 +51,7 @@ length-row u e = omega arith
 
 pub row-in-row : (row : List ℕ) → length row ≡ 19 → InRow (unitOfRow row)
 unfolding unitOfRow
-row-in-row row e = record { eight = length-take-le 8 (drop 11 row) (simp length-drop (omega arith)); lossless = refl }
+row-in-row row e = record { eight = length-take-le 8 (drop 11 row) (simp length-drop (omega arith)); no-linear-loss = refl }
 
 -- ---- rows one behind the other
 

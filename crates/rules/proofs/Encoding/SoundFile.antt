@@ -1,6 +1,7 @@
 -- An accepted file is a sound one: `fileVerdict file ≡ Accepted` as facts of its fields, both ways.
 use Prim.Native.Nat.{ℕ, zero, suc, _+_, _-_, _*_, _≤_, _<_}
 use native.Mathlib.Omega.{arith}
+use native.Mathlib.Nat.{le-refl, mul-le-mul}
 use mathlib.Core.Path.{_≡_, sym, ap, _∙_}
 use mathlib.Core.Logic.{_↔_}
 use mathlib.Core.Bool.{true}
@@ -9,13 +10,13 @@ use lib.ListN.{length, drop, length-drop}
 use lib.Seq.{length-take-le}
 use Rattle.fields.specs.Field.{Bytes}
 use Rattle.fields.proofs.Width.{bytes-part}
-use Rattle.rules.specs.Layout.{bodyLength, bodyOfUnit, edition, count, demand, offset, size, body, unitAt, caseOf}
+use Rattle.rules.specs.Layout.{edgesStart, bodyLength, bodyOfUnit, edition, count, demand, offset, size, body, unitAt, caseOf}
 use Rattle.rules.specs.Refusal.{start, legalSize, entryFits, editionVerdict, headVerdict, contentsVerdict, bodyVerdict, fileVerdict}
 use Rattle.rules.specs.declared.Verdict.the-variants.{Accepted}
 use Rattle.rules.proofs.Lists.{Every, every-each, all-each}
 use Rattle.rules.proofs.Verdicts.{in-order-each, accepts}
 use Rattle.rules.proofs.Sound.{Sound}
-use Rattle.rules.proofs.Encoding.Body.{Packable, SoundBody, sound-body, body-packable, body-unit-body}
+use Rattle.rules.proofs.Encoding.Body.{Packable, SoundBody, edges-start, sound-body, body-packable, body-unit-body}
 
 -- ---- place by place
 
@@ -133,3 +134,26 @@ units-sound file e = every-each Sound (count file) (unitAt file) (unit-at-sound 
 pub units-packable : (file : List ℕ) → fileVerdict file ≡ Accepted → edition file ≡ 1 → Every Packable (caseOf file .units)
 unfolding caseOf
 units-packable file e one = every-each Packable (count file) (unitAt file) (unit-at-packable (sound-file file .0 e) one)
+
+-- ---- how long an accepted file is: each body has from edgesStart bytes up to 16 more
+module _ {file : List ℕ} (s : SoundFile file) where
+  size-range : (i : ℕ) → i < count file → (edgesStart (edition file) ≤ size file i) × (size file i ≤ edgesStart (edition file) + 16)
+  size-range i h =
+      let b = sound-body (edition file) (body file i) (s .bodies i h) in
+      omega (arith, length-body-at (s .contents) i h, b .zones, b .size)
+
+  start-range : (i : ℕ) → i ≤ count file → (8 + 4 * count file + edgesStart (edition file) * i ≤ start file i) × (start file i ≤ 8 + 4 * count file + (edgesStart (edition file) + 16) * i)
+  start-range zero h = omega arith
+  start-range (suc i) h = omega (arith, start-range i (omega arith), start-next (s .contents) i (omega arith), size-range i (omega arith))
+
+pub accepted-length : (file : List ℕ) → fileVerdict file ≡ Accepted → (38 ≤ length file) × (length file ≤ 1608)
+accepted-length file e =
+    let s = sound-file file .0 e in
+    let r = start-range s (count file) (omega arith) in
+    let k = edges-start (edition file) in
+    let n = s .head .count-greatest in
+    let o = s .head .count-least in
+    let a : edgesStart (edition file) * 1 ≤ edgesStart (edition file) * count file = mul-le-mul (le-refl (edgesStart (edition file))) o in
+    let w : edgesStart (edition file) + 16 ≤ 46 = omega (arith, k) in
+    let b : (edgesStart (edition file) + 16) * count file ≤ 46 * 32 = mul-le-mul w n in
+    omega (arith, r, k, a, b, n, o, s .contents .ends)

@@ -1,4 +1,4 @@
--- `runner::print_total` looks at the numbers 1 to 14.
+-- `runner::print_total` looks at the numbers 1 to 29.
 use borrow.Author.Needs.{needs}
 use native.Mathlib.Omega.{arith}
 use Prim.Native.Nat.{_≤_, _-_}

@@ -1,15 +1,13 @@
 -- `unit::losses_out_of_range` meets its contract: b1 is read as it is held, and the sum fits.
-use mathlib.Core.Path.{_≡_, ap, sym, _∙_}
-use mathlib.Core.Bool.{true, false}
+use mathlib.Core.Path.{_≡_}
 use Prim.Native.Nat.{_*_}
 use native.Mathlib.Omega.{arith}
 use lib.IntN.{ℤ, pos, _+ℤ_}
-use lib.Signed.{leZ}
 use mir.Syntax.{w32, w64}
 use mir.Val.{SFits, toZ, ofZ}
 use mir.Facts.{toZ-ofZ, toZ-pos}
 use borrow.Author.Needs.{needs}
-use Rattle.fields.proofs.Integers.{up, dn, itself, is-pos, is-add, fits, fits-up, fits-dn, widened-fits, widened}
+use Rattle.fields.proofs.Integers.{itself, is-pos, is-add, fits, fits-up, fits-dn, widened-fits, widened}
 use Rattle.unit.proofs.losses_out_of_range.Statement.{statement}
 use Rattle.unit.proofs.losses_out_of_range.Tie as tie
 

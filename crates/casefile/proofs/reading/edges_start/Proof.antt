@@ -1,7 +1,7 @@
 -- `casefile::reading::edges_start` meets its contract.
 use native.Mathlib.Omega.{arith}
 use mathlib.Core.Path.{sym, ap}
-use borrow.Author.Tests.{eq-eqb, ne-eqb}
+use borrow.Author.Tests.{ne-eqb}
 use Rattle.rules.specs.Layout.{edgesStart}
 use Rattle.casefile.proofs.reading.edges_start.Statement.{statement}
 use Rattle.casefile.proofs.reading.edges_start.Tie as tie

@@ -1,13 +1,13 @@
 -- `site::decoding::linear_factor` meets its contract: the difference fits, and is not negative.
 use Prim.Native.Nat.{_+_, _≤_}
 use native.Mathlib.Omega.{arith}
-use mathlib.Core.Path.{_≡_, sym, _∙_}
+use mathlib.Core.Path.{sym, _∙_}
 use lib.IntN.{ℤ, pos, _-ℤ_}
 use mir.Syntax.{w32, w64}
-use mir.Val.{SFits, toZ, ofZ}
+use mir.Val.{SFits}
 use mir.Facts.{toZ-ofZ}
 use borrow.Author.Needs.{needs}
-use Rattle.fields.proofs.Integers.{up, dn, Is, itself, is-pos, is-minus, up-is, fits, fits-up, fits-dn, kept, not-negative, size-is, widened-fits, widened, ints}
+use Rattle.fields.proofs.Integers.{up, dn, Is, itself, is-pos, is-minus, up-is, fits, fits-up, fits-dn, not-negative, size-is, widened-fits, widened, ints}
 use Rattle.rules.specs.Unit.{linearFactor}
 use Rattle.rules.proofs.Economics.Quantities.{natural-up}
 use Rattle.site.proofs.decoding.linear_factor.Statement.{statement}
