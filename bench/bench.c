@@ -1,17 +1,17 @@
 /* Times the controller against the plain C program: processor time per dispatch, its ratio, and its growth with the number
  * of units. It first compares the answers of both. */
-#define _POSIX_C_SOURCE 199309L
 #include "agreement.h"
 #include "cases.h"
+#include "judges.h"
+#include "measure.h"
 #include "plain.h"
 #include "views.h"
 
 #include <stdio.h>
 #include <stdlib.h>
-#include <time.h>
 
 enum { SIZES = 6, ZONINGS = 2, OF_EDITION_1 = SIZES * ZONINGS, GROUPS = OF_EDITION_1 + ZONINGS };
-enum { REPETITIONS_DEFAULT = 15, REPETITIONS_MAX = 1000 };
+enum { REPETITIONS_DEFAULT = 15 };
 enum { UNITS_TIMED = 60000 }; /* units dispatched by each program in one repetition, about */
 
 static const uint32_t sizes[SIZES] = {1, 2, 4, 8, 16, 32};
@@ -29,13 +29,6 @@ static struct group groups[GROUPS], refused[GROUPS];
 static struct times whole_times[GROUPS], refused_times[GROUPS];
 
 /* ---- measuring */
-
-static double processor_nanoseconds(void)
-{
-    struct timespec t;
-    clock_gettime(CLOCK_PROCESS_CPUTIME_ID, &t);
-    return 1e9 * (double)t.tv_sec + (double)t.tv_nsec;
-}
 
 /* One pass over the cases of the group. */
 static double measure(dispatch_call *dispatch, const struct group *g)
@@ -71,19 +64,6 @@ static void repeat(int repetition, const struct group *g, struct times *t)
 }
 
 /* ---- statistics */
-
-static int ascending(const void *a, const void *b)
-{
-    double x = *(const double *)a, y = *(const double *)b;
-    return (x > y) - (x < y);
-}
-
-/* Sorts, so that the least is first, the greatest last and the median in the middle. */
-static double median(double *values, int n)
-{
-    qsort(values, (size_t)n, sizeof *values, ascending);
-    return (values[(n - 1) / 2] + values[n / 2]) / 2;
-}
 
 /* t = a + b n, by least squares of the deviations relative to t. */
 struct line {
@@ -266,5 +246,6 @@ int main(int argc, char **argv)
             repeat_group(repetition, i);
     print_times(repetitions);
     time_views(repetitions);
+    time_judges(repetitions, &groups[OF_EDITION_1 - 1]);
     return 0;
 }

@@ -1,12 +1,12 @@
 /* A plain C program of the specification's dispatch, from file bytes to reply bytes: what the controller is measured against.
  * It checks and decodes each unit once, finds its permitted outputs once as regions, and makes one division a unit and
- * evaluation. It is tested, not proved. */
+ * evaluation. Judging outputs that someone gives has the same parts. It is tested, not proved. */
 #include "plain.h"
 
 enum { UNITS_MAX = 32, ZONES_MAX = 4, REGIONS_MAX = 6 };
 enum { HEAD_BYTES = 8, ENTRY_BYTES = 4, ZONE_BYTES = 4 };
 enum { B1_AT = 26, B1_BYTES = 4, B1_MAX = 10000000 };
-enum { REPLY_BYTES_MIN = 92, OUTPUTS_AT = 28 };
+enum { REPLY_BYTES_MIN = 92, OUTPUTS_AT = 28, JUDGE_ANSWERS = 4 };
 enum { DEMAND_MAX = 320000, OUTPUT_MAX = 10000, MULTIPLIER_MAX = 65536 };
 
 #define NET_OF_STEP INT64_C(100000000)
@@ -25,7 +25,8 @@ enum refusal {
     LIMITS_INVALID = 9,
     RAMP_OR_MARK_OUT_OF_RANGE = 10,
     NO_ALLOCATION = 11,
-    LOSSES_OUT_OF_RANGE = 18
+    LOSSES_OUT_OF_RANGE = 18,
+    OUTPUT_COUNT_INVALID = 19
 };
 
 struct unit {
@@ -420,4 +421,51 @@ uint32_t plain_dispatch(const uint8_t *file, size_t file_length, uint8_t *reply,
         return NO_ALLOCATION;
     search(&q, &s);
     return write_reply(reply, &q, &s);
+}
+
+/* ---- outputs that someone gives */
+
+static int is_permitted(const struct offer *o, uint32_t p)
+{
+    for (int32_t k = 0; k < o->region_count; k++)
+        if (p >= (uint32_t)o->regions[k].low && p <= (uint32_t)o->regions[k].high)
+            return 1;
+    return 0;
+}
+
+/* Takes outputs as an allocation; returns whether each is permitted and together they cover. */
+static int take_outputs(const struct problem *q, const uint32_t *outputs, struct allocation *a)
+{
+    a->cost = a->net = 0;
+    for (uint32_t i = 0; i < q->count; i++) {
+        if (!is_permitted(&q->offers[i], outputs[i]))
+            return 0;
+        add_output(a, &q->offers[i], i, outputs[i]);
+    }
+    return a->net >= q->target;
+}
+
+uint32_t plain_judge(const uint8_t *file, size_t file_length, const uint32_t *outputs, size_t outputs_length, int64_t *answers,
+                     size_t answers_room)
+{
+    struct problem q;
+    struct solution s;
+    struct allocation given;
+    if (answers_room < JUDGE_ANSWERS)
+        return BUFFER_TOO_SHORT;
+    enum refusal r = read_case(file, file_length, &q);
+    if (r != ACCEPTED)
+        return r;
+    if (!greatest_outputs(&q, &s.best))
+        return NO_ALLOCATION;
+    if (outputs_length != q.count)
+        return OUTPUT_COUNT_INVALID;
+    int accepted = take_outputs(&q, outputs, &given);
+    if (accepted)
+        search(&q, &s);
+    answers[0] = accepted;
+    answers[1] = accepted ? given.cost : 0;
+    answers[2] = accepted ? given.net - q.target : 0;
+    answers[3] = accepted ? given.cost - s.floor : 0;
+    return 0;
 }

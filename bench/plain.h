@@ -1,4 +1,4 @@
-/* The plain C programs of the specification's dispatch and view, as the benchmark calls them. */
+/* The plain C programs of the specification's dispatch, view and judging, as the benchmark calls them. */
 #ifndef PLAIN_H
 #define PLAIN_H
 
@@ -11,5 +11,9 @@ uint32_t plain_dispatch(const uint8_t *file, size_t file_length, uint8_t *reply,
 /* As shahfureel_view in include/shahfureel.h. */
 uint32_t plain_view(const uint8_t *reply, size_t reply_length, const uint8_t *request, size_t request_length, uint8_t *answer,
                     size_t answer_room, int64_t *answers, size_t answers_room);
+
+/* As shahfureel_judge in include/shahfureel.h. */
+uint32_t plain_judge(const uint8_t *file, size_t file_length, const uint32_t *outputs, size_t outputs_length, int64_t *answers,
+                     size_t answers_room);
 
 #endif

@@ -1,28 +1,20 @@
 /* Times the Modbus view against plain C, on a reply of 32 units: all 46 registers, one register, and a request past the end. It
  * first compares the answers of both to every start and quantity up to 130. */
-#define _POSIX_C_SOURCE 199309L
 #include "views.h"
 
+#include "measure.h"
 #include "plain.h"
 #include "shahfureel.h"
 
 #include <stdio.h>
 #include <stdlib.h>
 #include <string.h>
-#include <time.h>
 
-enum { REPLY = 92, CALLS = 20000, REPETITIONS_MAX = 1000 };
+enum { REPLY = 92, CALLS = 20000 };
 
 typedef uint32_t view_call(const uint8_t *, size_t, const uint8_t *, size_t, uint8_t *, size_t, int64_t *, size_t);
 
 static uint8_t reply[REPLY];
-
-static double processor_nanoseconds(void)
-{
-    struct timespec t;
-    clock_gettime(CLOCK_PROCESS_CPUTIME_ID, &t);
-    return 1e9 * (double)t.tv_sec + (double)t.tv_nsec;
-}
 
 static uint32_t ask(view_call *view, uint8_t function, unsigned start, unsigned quantity, uint8_t *answer, int64_t *length)
 {
@@ -56,18 +48,6 @@ static double measure(view_call *view, unsigned start, unsigned quantity)
     }
     (void)sink;
     return (processor_nanoseconds() - begin) / CALLS;
-}
-
-static int by_size(const void *a, const void *b)
-{
-    double x = *(const double *)a, y = *(const double *)b;
-    return (x > y) - (x < y);
-}
-
-static double median(double *numbers, int count)
-{
-    qsort(numbers, (size_t)count, sizeof *numbers, by_size);
-    return numbers[count / 2];
 }
 
 static void time_view(int repetitions, const char *what, unsigned start, unsigned quantity)

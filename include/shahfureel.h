@@ -1,8 +1,9 @@
 /* Shahfureel: economic dispatch of generating sets, with a proved bound on the distance from the best.
  *
  * A unit is a generating set. A row is a unit's numbers as a list; packing turns rows and a demand into a case file, a few
- * hundred bytes; dispatch turns a case file into a reply: who gives how much, what it costs, and the gap to the best. The view
- * serves a reply to station screens that poll it by Modbus.
+ * hundred bytes; dispatch turns a case file into a reply: who gives how much, what it costs, and the gap to the best. Judging takes
+ * a case file and outputs of your own, and says whether they will do, what they cost and how far that is from the best at most. The
+ * view serves a reply to station screens that poll it by Modbus.
  *
  * A whole program: one unit that can give 0.2 to 1.0 MW, but nothing strictly between 0.4 and 0.7 MW, is asked for 0.5 MW.
  * It prints "unit 1 gives 0.7 MW" and "cost 119000, nobody does it for less than 77000".
@@ -51,8 +52,8 @@
  *     output buffers of its own. It takes about 3 kB of stack at most (seen, not proved).
  * What the caller must ensure (nothing in C can check it):
  *   - each pointer is valid for its length or room, and lists of numbers are aligned for their type;
- *   - LENGTHS AND ROOM OF LISTS COUNT NUMBERS, NOT BYTES: rows_length, rows_room, answers_room. For an array that is
- *     `sizeof rows / sizeof rows[0]`; a bare `sizeof rows` lets the call pass the array's end. Files, replies, requests and the
+ *   - LENGTHS AND ROOM OF LISTS COUNT NUMBERS, NOT BYTES: rows_length, rows_room, outputs_length, answers_room. For an array that
+ *     is `sizeof rows / sizeof rows[0]`; a bare `sizeof rows` lets the call pass the array's end. Files, replies, requests and the
  *     view's answer count bytes;
  *   - a length or room is at most PTRDIFF_MAX bytes, and a pointer is not null, also where the length is 0;
  *   - an output buffer overlaps no other buffer of the same call.
@@ -77,6 +78,7 @@ extern "C" {
 #define SHAHFUREEL_ROW_NUMBERS 19u           /* numbers to a unit in a list of rows */
 #define SHAHFUREEL_ROWS_NUMBERS 608u         /* a list of rows for unpacking has at least as many numbers */
 #define SHAHFUREEL_ANSWERS 2u                /* a list of answers has at least as many numbers; shahfureel_view uses one */
+#define SHAHFUREEL_JUDGE_ANSWERS 4u          /* and for shahfureel_judge as many */
 #define SHAHFUREEL_MULTIPLIER_MAX 65536u     /* hundredths of the currency per MWh */
 #define SHAHFUREEL_DEMAND_MAX 320000u        /* steps of 0.1 MW */
 #define SHAHFUREEL_RAMP_UNLIMITED 10000u     /* as up or down: no ramp limit that way */
@@ -86,8 +88,8 @@ extern "C" {
 
 /* ---- editions of the case file. Edition 1 is what shahfureel_pack writes and shahfureel_unpack reads. In edition 2 each unit
  * also has b1, a linear loss, from -10,000,000 to 10,000,000: at output p the unit loses b1 * p hundred-millionths of a step
- * more. It is a B0 coefficient times 100,000,000, and may be negative. Edition 1 is read as b1 = 0. shahfureel_dispatch and
- * shahfureel_price take both editions.
+ * more. It is a B0 coefficient times 100,000,000, and may be negative. Edition 1 is read as b1 = 0. shahfureel_dispatch,
+ * shahfureel_price and shahfureel_judge take both editions.
  *
  * To make a file of edition 2: edition2_pack of examples/edition2.h and edition2.c takes rows as shahfureel_pack does, and a b1
  * for each. By hand, from the bytes that shahfureel_pack wrote: the first field becomes 2; into each body, behind its byte 25,
@@ -133,6 +135,15 @@ enum shahfureel_reply {
 
 #define SHAHFUREEL_REPLY_OUTPUTS_AT 28u      /* SHAHFUREEL_REPLY_OUTPUTS by its former name */
 
+/* ---- the answers of shahfureel_judge: the place of each number */
+
+enum shahfureel_judged {
+    SHAHFUREEL_JUDGED_ACCEPTED = 0,          /* 1 if the outputs are accepted, else 0 and all others 0 too */
+    SHAHFUREEL_JUDGED_COST = 1,              /* what they cost, millionths of the currency per hour */
+    SHAHFUREEL_JUDGED_SURPLUS = 2,           /* net of losses less the demand, hundred-millionths of a step */
+    SHAHFUREEL_JUDGED_DISTANCE = 3           /* as the cost; nobody covers the demand for less than cost - distance */
+};
+
 /* These read a reply that shahfureel_dispatch has written; `unit` counts from 0 and is below shahfureel_reply_count(reply). */
 
 static inline uint64_t shahfureel_big_endian(const uint8_t *at, size_t bytes)
@@ -177,7 +188,8 @@ static inline uint16_t shahfureel_reply_output(const uint8_t *reply, size_t unit
 /* ---- refusals, and what to do
  *
  * The first that applies is given: dispatch 1 to 6, unit by unit 7, 8, 18, 9, 10, then 11; pricing 14, 1, then as dispatch from
- * 2 on; unpacking 1 to 6, unit by unit 7 to 10; packing 12, 5, row by row 7 to 10, then 13; the view 1, 15, 16, 17.
+ * 2 on; judging as dispatch, then 19; unpacking 1 to 6, unit by unit 7 to 10; packing 12, 5, row by row 7 to 10, then 13; the view
+ * 1, 15, 16, 17.
  *
  * 7 to 10 from packing: to find the row, pack the rows one by one, each as a list of its 19 numbers with demand 0. The row that
  * is refused is the one. From a call on a file: a file that packing has written is never refused with 2 to 10 or 18, if it is
@@ -193,7 +205,7 @@ static inline uint16_t shahfureel_reply_output(const uint8_t *reply, size_t unit
  * examples/modbus_server.c does. */
 
 enum shahfureel_refusal {
-    SHAHFUREEL_BUFFER_TOO_SHORT = 1,         /* lend a reply of 92 bytes, rows of 608 numbers, answers of 2 */
+    SHAHFUREEL_BUFFER_TOO_SHORT = 1,         /* lend a reply of 92 bytes, rows of 608 numbers, answers of 2, for judging of 4 */
     SHAHFUREEL_FILE_TOO_SHORT = 2,           /* the file has less than its 8 bytes of head: was it read whole? */
     SHAHFUREEL_EDITION_UNKNOWN = 3,          /* the first field is neither 1 nor 2, or for unpacking not 1: bytes swapped? */
     SHAHFUREEL_COUNT_OUT_OF_RANGE = 4,       /* the file names no unit, or more than 32 */
@@ -210,8 +222,9 @@ enum shahfureel_refusal {
     SHAHFUREEL_REPLY_MALFORMED = 15,         /* the reply is not 28 + 2 * units bytes, units 1 to 32: was its room passed? */
     SHAHFUREEL_REQUEST_LENGTH_INVALID = 16,  /* the request is not 5 bytes: one of another function, or with its header? */
     SHAHFUREEL_ANSWER_TOO_SHORT = 17,        /* lend an answer of 252 bytes */
-    SHAHFUREEL_LOSSES_OUT_OF_RANGE = 18      /* edition 2: b1 outside -10,000,000 to 10,000,000, or b1 + 19,999 * b at or above
+    SHAHFUREEL_LOSSES_OUT_OF_RANGE = 18,     /* edition 2: b1 outside -10,000,000 to 10,000,000, or b1 + 19,999 * b at or above
                                                 100,000,000: near 10,000 steps the net would not grow with the output */
+    SHAHFUREEL_OUTPUT_COUNT_INVALID = 19     /* not one output to a unit of the file: give 0 for a unit that stands */
 };
 
 /* ---- calls. README.md, "The formats", has the case file byte by byte. */
@@ -250,6 +263,22 @@ uint32_t shahfureel_unpack(const uint8_t *file, size_t file_length, uint32_t *ro
  * (answer_room counts bytes: at least 252. answers_room counts numbers: at least 1.) */
 uint32_t shahfureel_view(const uint8_t *reply, size_t reply_length, const uint8_t *request, size_t request_length,
                          uint8_t *answer, size_t answer_room, int64_t *answers, size_t answers_room);
+
+/* Judges outputs that you give, one to a unit in the order of the file, in steps of 0.1 MW, 0 for a unit that stands. Returns 0
+ * and writes four answers: answers[0] is 1 if the outputs are accepted, and then answers[1] is their cost, answers[2] their surplus
+ * and answers[3] the distance; it is 0 if they are not, and then the others are 0 too; or returns a refusal.
+ *   - Accepted are outputs each of which is permitted (see the row above) and which together cover the demand after losses. Any
+ *     other list is not accepted, also one with a number above 10,000: a number is never cut.
+ *   - The outputs may cost less than those that shahfureel_dispatch replies, which tries one price of energy for all units at a
+ *     time and no combinations of outputs. Those of a reply are accepted with the reply's cost and surplus, and its gap as the
+ *     distance.
+ *   - No permitted outputs that cover the demand cost less than cost - distance. For one file that is the same number for all
+ *     outputs: it is cost - gap of the reply too.
+ * To see why outputs are not accepted, judge them again with a demand of 0 (bytes 4 to 7 of the file): accepted, they are permitted
+ * and what they net is answers[2]; else one of them is not permitted. examples/judge.c does so, and finds which.
+ * (outputs_length and answers_room count numbers: answers_room is at least 4.) */
+uint32_t shahfureel_judge(const uint8_t *file, size_t file_length, const uint32_t *outputs, size_t outputs_length,
+                          int64_t *answers, size_t answers_room);
 
 #ifdef __cplusplus
 }

@@ -21,7 +21,7 @@ static void expect(int holds, const char *call, const char *what)
 
 /* ---- buffers between guards. Sizes and places are written out here and below; `sizes_named` compares the header's with them. */
 
-enum { GUARD = 16, ALIGNMENTS = 8, FILLED = 0xA5, BYTES = 1608, NUMBERS = 608, ANSWERS = 3 };
+enum { GUARD = 16, ALIGNMENTS = 8, FILLED = 0xA5, BYTES = 1608, NUMBERS = 608, ANSWERS = 5 };
 
 static uint8_t byte_space[GUARD + ALIGNMENTS + BYTES + GUARD];
 static uint32_t number_space[GUARD + NUMBERS + GUARD];
@@ -423,6 +423,145 @@ static void viewing(size_t a)
     view_gives(U5_REPLY, sizeof U5_REPLY, 5, a, 251, 1, SHAHFUREEL_ANSWER_TOO_SHORT, "an answer of 251 bytes is 17");
 }
 
+/* ---- judging */
+
+static const uint32_t seven[2] = {7, 7};
+
+static uint32_t judge(const uint8_t *from, size_t file_length, const uint32_t *given, size_t outputs_length, size_t alignment,
+                      size_t answers_room)
+{
+    fill();
+    uint8_t *file = copy_of(from, file_length, alignment);
+    uint32_t *outputs = copy_of(given, outputs_length * sizeof given[0], sizeof given[0]);
+    uint32_t number = shahfureel_judge(file, file_length, outputs, outputs_length, answers, answers_room);
+    release("judge", outputs, given, outputs_length * sizeof given[0], sizeof given[0]);
+    release("judge", file, from, file_length, alignment);
+    return number;
+}
+
+static void judge_gives(const uint8_t *file, size_t file_length, const uint32_t *outputs, size_t outputs_length, size_t alignment,
+                        size_t answers_room, uint32_t number, const char *what)
+{
+    expect(judge(file, file_length, outputs, outputs_length, alignment, answers_room) == number, "judge", what);
+    expect(all_kept(), "judge", "a refusal changes nothing");
+}
+
+static void judge_accepts(const uint8_t *file, size_t file_length, const uint32_t *outputs, size_t outputs_length,
+                          size_t alignment, size_t answers_room, int64_t cost, int64_t surplus, int64_t distance, const char *what)
+{
+    expect(judge(file, file_length, outputs, outputs_length, alignment, answers_room) == 0, "judge", what);
+    expect(answers[0] == 1 && answers[1] == cost && answers[2] == surplus && answers[3] == distance, "judge", what);
+    expect(answers_kept_but(4), "judge", "it writes four answers and no other");
+}
+
+/* an output of a file of one unit */
+static void judge_accepts_not(const uint8_t *file, size_t file_length, uint32_t output, size_t alignment, const char *what)
+{
+    for (size_t room = 4; room <= 5; room++) {
+        expect(judge(file, file_length, &output, 1, alignment, room) == 0, "judge", what);
+        expect(answers[0] == 0 && answers[1] == 0 && answers[2] == 0 && answers[3] == 0, "judge", what);
+        expect(answers_kept_but(4), "judge", "it writes four zeros and no other answer");
+    }
+}
+
+/* the outputs of a reply are accepted with the reply's cost and surplus, and its gap as the distance */
+static void judging_replies(const uint8_t *file, size_t file_length, size_t a)
+{
+    uint8_t reply[92];
+    uint32_t outputs[32];
+    expect(shahfureel_dispatch(file, file_length, reply, sizeof reply) >= 30, "judge", "a case to be dispatched");
+    uint32_t units = shahfureel_reply_count(reply);
+    for (uint32_t i = 0; i < units; i++)
+        outputs[i] = shahfureel_reply_output(reply, i);
+    judge_accepts(file, file_length, outputs, units, a, 4, (int64_t)shahfureel_reply_cost(reply),
+                  (int64_t)shahfureel_reply_surplus(reply), (int64_t)shahfureel_reply_gap(reply), "dispatch's own outputs");
+}
+
+/* U at other demands than 5: edges, limits and standing; and its own dispatch at each demand that it covers */
+static void judging_demands(size_t a)
+{
+    judge_accepts(u5_but(7, 4), U5_BYTES, (const uint32_t[]){4}, 1, a, 4, 56000, 0, 0, "a lower edge, and the demand just met");
+    judge_accepts(u5_but(7, 7), U5_BYTES, seven, 1, a, 4, 119000, 0, 0, "an upper edge");
+    judge_accepts(u5_but(7, 10), U5_BYTES, (const uint32_t[]){10}, 1, a, 4, 200000, 0, 0, "the greatest output");
+    judge_accepts(u5_but(7, 1), U5_BYTES, (const uint32_t[]){2}, 1, a, 4, 24000, 100000000, 12000, "the least output");
+    judge_accepts(u5_but(7, 0), U5_BYTES, (const uint32_t[]){0}, 1, a, 4, 0, 0, 0, "a set that stands");
+    judge_accepts_not(u5_but(7, 10), U5_BYTES, 9, a, "a step too little");
+    for (uint8_t demand = 0; demand <= 10; demand++)
+        judging_replies(u5_but(7, demand), U5_BYTES, a);
+    u5_but(7, 0);
+    case_file[35] = 1;
+    judge_accepts(case_file, U5_BYTES, (const uint32_t[]){2}, 1, a, 4, 24000, 200000000, 0, "a set that must run");
+    judge_accepts_not(case_file, U5_BYTES, 0, a, "a set that must run and stands");
+}
+
+static void judging_edition_2(size_t a)
+{
+    judge_accepts(e2(), E2_BYTES, (const uint32_t[]){8}, 1, a, 4, 144000, 380000000, 76600, "b1 -10,000,000");
+    judge_accepts(e2_with(0, 10000000), E2_BYTES, (const uint32_t[]){8}, 1, a, 4, 144000, 220000000, 55800, "b1 10,000,000");
+    judging_replies(e2(), E2_BYTES, a);
+    e2_with(0, 10000000);
+    case_file[7] = 2;
+    judge_accepts_not(case_file, E2_BYTES, 2, a, "b1 10,000,000 leaves less than 2 steps of 2");
+    for (size_t i = 0; i < DAMAGED_2; i++) {
+        judge_gives(e2_damaged(i), E2_BYTES, seven, 1, a, 4, damaged_2[i].number, damaged_2[i].what);
+        judge_gives(e2_damaged(i), E2_BYTES, seven, 0, a, 4, damaged_2[i].number, "19 comes last");
+    }
+}
+
+/* U twice at demand 5: cheaper by hand than by dispatch, which gives 3 and 3 */
+static void judging_two_units(size_t a)
+{
+    uint32_t rows[2 * ROW];
+    uint8_t file[BYTES];
+    memcpy(rows, U_ROW, sizeof U_ROW);
+    memcpy(rows + ROW, U_ROW, sizeof U_ROW);
+    uint32_t length = shahfureel_pack(5, rows, 2 * ROW, file, sizeof file);
+    expect(length == 76, "judge", "U twice packs to 76 bytes");
+    judge_accepts(file, length, (const uint32_t[]){2, 3}, 2, a, 4, 63000, 0, 0, "2 and 3");
+    judge_accepts(file, length, (const uint32_t[]){7, 0}, 2, a, 5, 119000, 200000000, 56000, "7 and 0");
+    judging_replies(file, length, a);
+    expect(judge(file, length, (const uint32_t[]){2, 2}, 2, a, 4) == 0 && answers[0] == 0, "judge", "2 and 2 do not cover");
+    expect(judge(file, length, (const uint32_t[]){3, 65539}, 2, a, 4) == 0 && answers[0] == 0, "judge", "no number is cut");
+    judge_gives(file, length, seven, 1, a, 4, SHAHFUREEL_OUTPUT_COUNT_INVALID, "an output too few is 19");
+    judge_gives(file, length, (const uint32_t[]){2, 3, 0}, 3, a, 4, SHAHFUREEL_OUTPUT_COUNT_INVALID, "an output too many is 19");
+    rows[ROW + SHAHFUREEL_ROW_MUST_RUN] = 1;
+    expect(shahfureel_pack(5, rows, 2 * ROW, file, sizeof file) == length, "judge", "the second must run");
+    judge_accepts(file, length, (const uint32_t[]){0, 7}, 2, a, 4, 119000, 200000000, 56000, "the second runs");
+    expect(judge(file, length, (const uint32_t[]){7, 0}, 2, a, 4) == 0 && answers[0] == 0, "judge", "an output is its own unit's");
+}
+
+static void judging(size_t a)
+{
+    judge_accepts(u5(), U5_BYTES, seven, 1, a, SHAHFUREEL_JUDGE_ANSWERS, 119000, 200000000, 42000, "U5, 7");
+    judge_accepts(u5(), U5_BYTES, seven, 1, a, 5, 119000, 200000000, 42000, "U5, 7, five answers");
+    judge_accepts(u5(), U5_BYTES, (const uint32_t[]){8}, 1, a, 4, 144000, 300000000, 67000, "U5, 8");
+    judge_accepts_not(u5(), U5_BYTES, 4, a, "permitted and not covering");
+    judge_accepts_not(u5(), U5_BYTES, 0, a, "standing and not covering");
+    judge_accepts_not(u5(), U5_BYTES, 5, a, "inside the zone");
+    judge_accepts_not(u5(), U5_BYTES, 1, a, "below least");
+    judge_accepts_not(u5(), U5_BYTES, 11, a, "above greatest");
+    judge_accepts_not(u5(), U5_BYTES, 65536 + 7, a, "a number is not cut to 16 bits");
+    judge_accepts_not(u5(), U5_BYTES, UINT32_MAX, a, "the greatest number of 32 bits");
+    judging_demands(a);
+    judging_edition_2(a);
+    judging_two_units(a);
+    judge_gives(u5(), U5_BYTES, seven, 1, a, 3, SHAHFUREEL_BUFFER_TOO_SHORT, "three answers are 1");
+    judge_gives(u5(), 0, seven, 0, a, 3, SHAHFUREEL_BUFFER_TOO_SHORT, "1 comes before 2 and 19");
+    judge_gives(u5(), U5_BYTES, seven, 0, a, 0, SHAHFUREEL_BUFFER_TOO_SHORT, "no answer is 1");
+    judge_gives(u5(), 7, seven, 1, a, 4, SHAHFUREEL_FILE_TOO_SHORT, "a file of 7 bytes is 2");
+    judge_gives(u5(), 0, seven, 0, a, 4, SHAHFUREEL_FILE_TOO_SHORT, "2 comes before 19");
+    judge_gives(u5(), U5_BYTES - 1, seven, 1, a, 4, SHAHFUREEL_CONTENTS_INVALID, "a cut file is 6");
+    for (size_t i = 0; i < DAMAGED; i++) {
+        const uint8_t *file = u5_but(damaged[i].at, damaged[i].value);
+        judge_gives(file, U5_BYTES, seven, 1, a, 4, damaged[i].number, damaged[i].what);
+        judge_gives(file, U5_BYTES, seven, 2, a, 4, damaged[i].number, "19 comes last");
+    }
+    judge_gives(u5_but(7, 11), U5_BYTES, seven, 1, a, 4, SHAHFUREEL_NO_ALLOCATION, "a demand of 11 is 11");
+    judge_gives(u5_but(7, 11), U5_BYTES, seven, 0, a, 4, SHAHFUREEL_NO_ALLOCATION, "11 comes before 19");
+    judge_gives(u5(), U5_BYTES, seven, 0, a, 4, SHAHFUREEL_OUTPUT_COUNT_INVALID, "no output is 19");
+    judge_gives(u5(), U5_BYTES, seven, 2, a, 4, SHAHFUREEL_OUTPUT_COUNT_INVALID, "two outputs for one unit are 19");
+}
+
 /* ---- packing */
 
 static uint32_t pack(uint32_t demand, const uint32_t *from, size_t rows_length, size_t alignment, size_t file_room)
@@ -584,6 +723,7 @@ static void sizes_named(void)
     expect(SHAHFUREEL_FILE_BYTES_MAX == BYTES && SHAHFUREEL_ROWS_NUMBERS == NUMBERS, "names", "1,608 bytes, 608 numbers");
     expect(SHAHFUREEL_ROW_NUMBERS == ROW && SHAHFUREEL_ROW_EDGES + 8 == ROW, "names", "19 numbers, the last 8 of them edges");
     expect(SHAHFUREEL_REPLY_BYTES == 92 && SHAHFUREEL_ANSWERS == 2, "names", "92 bytes, 2 answers");
+    expect(SHAHFUREEL_JUDGE_ANSWERS == 4, "names", "4 answers of judging");
     expect(SHAHFUREEL_UNITS_MAX == 32 && SHAHFUREEL_DEMAND_MAX == 320000, "names", "32 units, 320,000 steps");
     expect(SHAHFUREEL_MULTIPLIER_MAX == 65536 && SHAHFUREEL_LENGTH_MIN == sizeof U5_REPLY, "names", "65,536, 30");
     expect(SHAHFUREEL_REPLY_OUTPUTS_AT == SHAHFUREEL_REPLY_OUTPUTS, "names", "the former name of the outputs' place");
@@ -611,6 +751,7 @@ static void longest_reply(const uint8_t *file, size_t length)
     expect(shahfureel_reply_count(reply) == SHAHFUREEL_UNITS_MAX, "names", "32 units");
     for (uint32_t i = 0; i < SHAHFUREEL_UNITS_MAX; i++)
         expect(shahfureel_reply_output(reply, i) == 0x102, "names", "each gives its least output");
+    judging_replies(file, length, 1);
 }
 
 /* 32 times V: the longest file of edition 1 */
@@ -645,6 +786,16 @@ static void longest_of_edition_2(void)
     dispatch_gives(file, BYTES + 1, 0, 92, SHAHFUREEL_CONTENTS_INVALID, "1,609 bytes are 6");
     file[1] = 1;
     dispatch_gives(file, BYTES, 0, 92, SHAHFUREEL_CONTENTS_INVALID, "a body of 46 bytes is 6 in edition 1");
+}
+
+static void judgements_named(void)
+{
+    const uint32_t output = 7;
+    int64_t judged[SHAHFUREEL_JUDGE_ANSWERS];
+    expect(shahfureel_judge(U5, sizeof U5, &output, 1, judged, SHAHFUREEL_JUDGE_ANSWERS) == 0, "names", "U5 judged returns 0");
+    expect(judged[SHAHFUREEL_JUDGED_ACCEPTED] == 1 && judged[SHAHFUREEL_JUDGED_COST] == 119000, "names", "accepted, cost");
+    expect(judged[SHAHFUREEL_JUDGED_SURPLUS] == 200000000, "names", "surplus");
+    expect(judged[SHAHFUREEL_JUDGED_DISTANCE] == 42000, "names", "distance");
 }
 
 static void replies_named(void)
@@ -723,11 +874,13 @@ int main(void)
     longest_packed();
     longest_of_edition_2();
     replies_named();
+    judgements_named();
     advice();
     for (size_t alignment = 1; alignment <= ALIGNMENTS; alignment++) {
         dispatching(alignment);
         pricing(alignment);
         viewing(alignment);
+        judging(alignment);
         packing(alignment);
         unpacking(alignment);
     }

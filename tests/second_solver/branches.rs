@@ -1,6 +1,8 @@
-//! What the counts of numbers do not tell apart: the branches of the rules on editions and on 18, and how often calls came to each.
+//! What the counts of numbers do not tell apart: the branches of the rules on editions and on 18, and how often calls came to each of
+//! them and of those of `judged`.
 
 use crate::calls::Call;
+use crate::judged;
 use crate::solver::{self, Refused, Unit};
 
 /// A call on a file, and the number of its refusal, or none.
@@ -126,35 +128,52 @@ impl Seen<'_> {
     }
 }
 
-/// How often calls came to each branch.
-pub struct Reached([u64; BRANCHES.len()]);
+/// How often calls came to each branch: those above, then those of `judged`.
+pub struct Reached([u64; BRANCHES.len() + judged::BRANCHES.len()]);
 
 impl Default for Reached {
     fn default() -> Reached {
-        Reached([0; BRANCHES.len()])
+        Reached([0; BRANCHES.len() + judged::BRANCHES.len()])
     }
 }
 
 impl Reached {
     pub fn count(&mut self, call: &Call, refused: Option<Refused>) {
-        let file = match call {
-            Call::Dispatch { file, .. } | Call::Price { file, .. } | Call::Unpack { file, .. } => file,
-            Call::Pack { .. } | Call::View { .. } => return,
-        };
-        let unpacking = matches!(call, Call::Unpack { .. });
+        match call {
+            Call::Dispatch { file, .. } | Call::Price { file, .. } => self.count_file(file, false, refused),
+            Call::Unpack { file, .. } => self.count_file(file, true, refused),
+            Call::Judge { file, outputs } => self.count_judged(file, outputs, refused),
+            Call::Pack { .. } | Call::View { .. } => {}
+        }
+    }
+
+    fn count_file(&mut self, file: &[u8], unpacking: bool, refused: Option<Refused>) {
         let seen = Seen { file, unpacking, number: refused.map(|refused| refused.0) };
         for (count, (_, reached)) in self.0.iter_mut().zip(BRANCHES) {
             *count += u64::from(reached(&seen));
         }
     }
 
+    fn count_judged(&mut self, file: &[u8], outputs: &[u32], refused: Option<Refused>) {
+        let seen = judged::Seen::new(file, outputs, refused);
+        for (count, (_, reached)) in self.0[BRANCHES.len()..].iter_mut().zip(judged::BRANCHES) {
+            *count += u64::from(reached(&seen));
+        }
+    }
+
+    /// The name of each branch, and its count.
+    fn counts(&self) -> impl Iterator<Item = (&'static str, u64)> + '_ {
+        let names = BRANCHES.iter().map(|branch| branch.0).chain(judged::BRANCHES.iter().map(|branch| branch.0));
+        names.zip(self.0.iter().copied())
+    }
+
     pub fn lines(&self) -> Vec<String> {
-        self.0.iter().zip(BRANCHES).map(|(count, (name, _))| format!("{}: {}", name, count)).collect()
+        self.counts().map(|(name, count)| format!("{}: {}", name, count)).collect()
     }
 
     pub fn assert_complete(&self) {
-        for (count, (name, _)) in self.0.iter().zip(BRANCHES) {
-            assert!(*count > 0, "no call came to: {}", name);
+        for (name, count) in self.counts() {
+            assert!(count > 0, "no call came to: {}", name);
         }
     }
 }

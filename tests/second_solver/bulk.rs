@@ -1,13 +1,14 @@
-//! Compares the library's five C calls with the second solver on fresh cases: `bulk SECONDS [SEED]`, or `bulk --case SEED` to
+//! Compares the library's six C calls with the second solver on fresh cases: `bulk SECONDS [SEED]`, or `bulk --case SEED` to
 //! repeat one case. Answers and whole buffers have to be equal, with what lies before and behind the lent parts.
 
 use second_solver::branches::Reached;
 use second_solver::calls::{bytes_of, Call};
 use second_solver::generate::kinds;
+use second_solver::promise::{self, Judgements};
 use second_solver::random::Random;
-use second_solver::solver::{self, Refused};
+use second_solver::solver::{self, Judged, Refused};
 use second_solver::tally::{Tally, POSSIBLE_IN_C};
-use second_solver::{hex, promise, vectors};
+use second_solver::{hex, vectors};
 use std::fmt::Debug;
 use std::time::{Duration, Instant, SystemTime};
 
@@ -36,6 +37,14 @@ extern "C" {
         answer_room: usize,
         lengths: *mut i64,
         lengths_room: usize,
+    ) -> u32;
+    fn shahfureel_judge(
+        file: *const u8,
+        file_length: usize,
+        outputs: *const u32,
+        outputs_length: usize,
+        answers: *mut i64,
+        answers_room: usize,
     ) -> u32;
 }
 
@@ -85,7 +94,7 @@ fn random_i64(random: &mut Random) -> i64 {
 struct Buffers {
     bytes_in: Lent<u8>,
     request_in: Lent<u8>,
-    rows_in: Lent<u32>,
+    numbers_in: Lent<u32>,
     bytes_out: Lent<u8>,
     rows_out: Lent<u32>,
     answers: Lent<i64>,
@@ -93,29 +102,39 @@ struct Buffers {
 
 impl Buffers {
     fn new(call: &Call, random: &mut Random) -> Buffers {
-        let (bytes, request, rows): (&[u8], &[u8], &[u32]) = match call {
+        let (bytes, request, numbers): (&[u8], &[u8], &[u32]) = match call {
             Call::Dispatch { file, .. } | Call::Price { file, .. } | Call::Unpack { file, .. } => (file, &[], &[]),
             Call::Pack { rows, .. } => (&[], &[], rows),
             Call::View { reply, request, .. } => (reply, request, &[]),
+            Call::Judge { file, outputs } => (file, &[], outputs),
         };
         let (bytes_out, rows_out) = match call {
             Call::Dispatch { room, .. } => (some_room(*room, 92, random), 0),
             Call::Pack { room, .. } => (some_room(*room, *room, random), 0),
             Call::Unpack { room, .. } => (0, some_room(*room, 608, random)),
             Call::View { room, .. } => (some_room(*room, 252, random), 0),
-            Call::Price { .. } => (0, 0),
+            Call::Price { .. } | Call::Judge { .. } => (0, 0),
         };
-        let long = random.pick(&[256, 257, LONG, LONG + 1]);
-        let usual = random.pick(&[0, 1, 2, 2, 2, 2, 2, 2, 2, 2, 3, 9]);
-        let answers = if random.chance(200) { long } else { usual };
+        let answers = some_answers(call, random);
         Buffers {
             bytes_in: Lent::holding(bytes, random, random_byte),
             request_in: Lent::holding(request, random, random_byte),
-            rows_in: Lent::holding(rows, random, random_u32),
+            numbers_in: Lent::holding(numbers, random, random_u32),
             bytes_out: Lent::random(bytes_out, random, random_byte),
             rows_out: Lent::random(rows_out, random, random_u32),
             answers: Lent::random(answers, random, random_i64),
         }
+    }
+}
+
+/// Room for as many answers as the call has, mostly; or for fewer, for more, or rarely for many.
+fn some_answers(call: &Call, random: &mut Random) -> usize {
+    if random.chance(200) {
+        return random.pick(&[256, 257, LONG, LONG + 1]);
+    }
+    match call {
+        Call::Judge { .. } => random.pick(&[0, 3, 4, 4, 4, 4, 4, 4, 4, 4, 4, 4, 5, 9]),
+        _ => random.pick(&[0, 1, 2, 2, 2, 2, 2, 2, 2, 2, 3, 9]),
     }
 }
 
@@ -140,6 +159,8 @@ fn sometimes_padded(mut call: Call, random: &mut Random) -> Call {
         Call::Pack { rows, .. } if random.chance(200) => rows.resize(rows.len() + LONG, 0),
         Call::View { reply, .. } if random.chance(200) => reply.resize(reply.len() + LONG, 0),
         Call::View { request, .. } if random.chance(200) => request.resize(request.len() + LONG, 0),
+        Call::Judge { file, .. } if random.chance(200) => file.resize(file.len() + LONG, 0),
+        Call::Judge { outputs, .. } if random.chance(200) => outputs.resize(outputs.len() + LONG, 0),
         _ => {}
     }
     call
@@ -150,7 +171,7 @@ fn sometimes_padded(mut call: Call, random: &mut Random) -> Call {
 fn library_answer(call: &Call, buffers: &mut Buffers) -> u32 {
     let bytes = buffers.bytes_in.part();
     let request = buffers.request_in.part();
-    let rows = buffers.rows_in.part();
+    let numbers = buffers.numbers_in.part();
     let bytes_out = buffers.bytes_out.part();
     let rows_out = buffers.rows_out.part();
     let answers = buffers.answers.part();
@@ -164,7 +185,7 @@ fn library_answer(call: &Call, buffers: &mut Buffers) -> u32 {
                 shahfureel_price(bytes.as_mut_ptr(), bytes.len(), *multiplier, answers.as_mut_ptr(), answers.len())
             }
             Call::Pack { demand, .. } => {
-                shahfureel_pack(*demand, rows.as_mut_ptr(), rows.len(), bytes_out.as_mut_ptr(), bytes_out.len())
+                shahfureel_pack(*demand, numbers.as_mut_ptr(), numbers.len(), bytes_out.as_mut_ptr(), bytes_out.len())
             }
             Call::Unpack { .. } => shahfureel_unpack(
                 bytes.as_mut_ptr(),
@@ -184,6 +205,14 @@ fn library_answer(call: &Call, buffers: &mut Buffers) -> u32 {
                 answers.as_mut_ptr(),
                 answers.len(),
             ),
+            Call::Judge { .. } => shahfureel_judge(
+                bytes.as_mut_ptr(),
+                bytes.len(),
+                numbers.as_mut_ptr(),
+                numbers.len(),
+                answers.as_mut_ptr(),
+                answers.len(),
+            ),
         }
     }
 }
@@ -197,6 +226,7 @@ fn solver_answer(call: &Call, buffers: &mut Buffers) -> u32 {
         Call::View { reply, request, .. } => {
             solver::panel_view(reply, request, buffers.bytes_out.part(), buffers.answers.part())
         }
+        Call::Judge { file, outputs } => solver::panel_judge(file, outputs, buffers.answers.part()),
     }
 }
 
@@ -204,7 +234,7 @@ fn solver_answer(call: &Call, buffers: &mut Buffers) -> u32 {
 fn refusal(call: &Call, number: u32) -> Option<Refused> {
     let answered = match call {
         Call::Dispatch { .. } | Call::Pack { .. } => number >= 30,
-        Call::Price { .. } | Call::Unpack { .. } | Call::View { .. } => number == 0,
+        Call::Price { .. } | Call::Unpack { .. } | Call::View { .. } | Call::Judge { .. } => number == 0,
     };
     if answered {
         None
@@ -239,7 +269,7 @@ fn difference(call: &Call, library: (u32, &Buffers), solver: (u32, &Buffers)) ->
     text += &format!("the library returns {}, the solver {}\n", library.0, solver.0);
     text += &buffer_difference("input bytes", &library.1.bytes_in, &solver.1.bytes_in);
     text += &buffer_difference("request bytes", &library.1.request_in, &solver.1.request_in);
-    text += &buffer_difference("input rows", &library.1.rows_in, &solver.1.rows_in);
+    text += &buffer_difference("input numbers", &library.1.numbers_in, &solver.1.numbers_in);
     text += &buffer_difference("bytes", &library.1.bytes_out, &solver.1.bytes_out);
     text += &buffer_difference("rows", &library.1.rows_out, &solver.1.rows_out);
     text += &buffer_difference("answers", &library.1.answers, &solver.1.answers);
@@ -253,6 +283,7 @@ fn input_text(call: &Call) -> String {
         Call::Pack { demand, rows, .. } => format!("pack: demand {}, rows {}", demand, hex(&bytes_of(rows))),
         Call::Unpack { file, .. } => format!("unpack: file {}", hex(file)),
         Call::View { reply, request, .. } => format!("view: request {}, reply {}", hex(request), hex(reply)),
+        Call::Judge { file, outputs } => format!("judge: outputs {:?}, file {}", outputs, hex(file)),
     }
 }
 
@@ -268,22 +299,23 @@ fn buffer_difference<T: PartialEq + Debug>(name: &str, library: &Lent<T>, solver
     text
 }
 
-/// Checks a dispatch of the library against demand 3, if the file is accepted and small. Tells whether it did.
-fn check_promise(call: &Call, number: u32, buffers: &mut Buffers) -> Result<bool, String> {
-    let file = match call {
-        Call::Dispatch { file, .. } => file,
-        _ => return Ok(false),
-    };
-    let answer = match refusal(call, number) {
-        None => Ok(&buffers.bytes_out.part()[..number as usize]),
-        Some(Refused(11)) => Err(Refused(11)),
-        Some(_) => return Ok(false),
-    };
-    let case = solver::decode(file).map_err(|refused| format!("{} is refused with {}", hex(file), refused.0))?;
-    if !promise::is_small(&case, MOST_ALLOCATIONS, MOST_OFFERS) {
+/// Whether a call has passed the file's checks, and the file is small enough for brute force.
+fn is_small(file: &[u8], refused: Option<Refused>) -> Result<bool, String> {
+    if !matches!(refused, None | Some(Refused(11)) | Some(Refused(19))) {
         return Ok(false);
     }
-    promise::check(file, answer).map(|()| true)
+    let case = solver::decode(file).map_err(|refused| format!("{} is refused with {}", hex(file), refused.0))?;
+    Ok(promise::is_small(&case, MOST_ALLOCATIONS, MOST_OFFERS))
+}
+
+/// What the answers of a C call say of outputs.
+fn judged(answers: &[i64]) -> Judged {
+    match answers[..4] {
+        [1, cost, surplus, distance] => {
+            Judged::Accepted { cost: cost.into(), surplus: surplus.into(), distance: distance.into() }
+        }
+        _ => Judged::NotAccepted,
+    }
 }
 
 // ---- cases and runs
@@ -294,10 +326,11 @@ struct Run {
     reached: Reached,
     cases: u64,
     promises: u64,
+    judgements: Judgements,
 }
 
 impl Run {
-    /// Makes the case of a seed: a kind, its calls, and in one case of 50 the brute force of demand 3.
+    /// Makes the case of a seed: a kind, its calls, and in one case of 50 the brute force of what is promised.
     fn case(&mut self, seed: u64) -> Result<(), String> {
         let mut random = Random::new(seed);
         let kind = random.pick(&kinds());
@@ -307,12 +340,30 @@ impl Run {
             let (number, mut buffers) = compare(&call, &mut random)?;
             self.tally.count(call.index(), refusal(&call, number));
             self.reached.count(&call, refusal(&call, number));
-            if by_brute_force && check_promise(&call, number, &mut buffers)? {
-                self.promises += 1;
+            if by_brute_force {
+                self.check_promise(&call, number, &mut buffers)?;
             }
         }
         self.cases += 1;
         Ok(())
+    }
+
+    /// Checks a dispatch of the library against demand 3, or a judgement against rules 19.1 to 19.6, if the case is small.
+    fn check_promise(&mut self, call: &Call, number: u32, buffers: &mut Buffers) -> Result<(), String> {
+        let refused = refusal(call, number);
+        match call {
+            Call::Dispatch { file, .. } if is_small(file, refused)? => {
+                let written = buffers.bytes_out.part();
+                promise::check(file, refused.map_or_else(|| Ok(&written[..number as usize]), Err))?;
+                self.promises += 1;
+                Ok(())
+            }
+            Call::Judge { file, outputs } if is_small(file, refused)? => {
+                let answer = refused.map_or_else(|| Ok(judged(buffers.answers.part())), Err);
+                self.judgements.check(file, outputs, answer)
+            }
+            _ => Ok(()),
+        }
     }
 
     fn case_or_exit(&mut self, seed: u64) {
@@ -323,7 +374,8 @@ impl Run {
     }
 
     fn print(&self) {
-        println!("{} calls of {} cases compared, {} dispatches by brute force", self.tally.total(), self.cases, self.promises);
+        let by_brute_force = format!("{} dispatches and {} judgements by brute force", self.promises, self.judgements.checked);
+        println!("{} calls of {} cases compared, {}", self.tally.total(), self.cases, by_brute_force);
         for line in self.tally.lines().iter().chain(&self.reached.lines()) {
             println!("{}", line);
         }

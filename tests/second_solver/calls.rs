@@ -1,4 +1,4 @@
-//! The five calls of the specification, with their inputs and the size of the buffer that is lent.
+//! The six calls of the specification, with their inputs and the size of the buffer that is lent.
 
 #[derive(Clone, Debug)]
 pub enum Call {
@@ -7,10 +7,11 @@ pub enum Call {
     Pack { demand: u32, rows: Vec<u32>, room: usize },
     Unpack { file: Vec<u8>, room: usize },
     View { reply: Vec<u8>, request: Vec<u8>, room: usize },
+    Judge { file: Vec<u8>, outputs: Vec<u32> },
 }
 
 /// The names of the calls, in the order of their indices.
-pub const NAMES: [&str; 5] = ["dispatch", "price", "pack", "unpack", "view"];
+pub const NAMES: [&str; 6] = ["dispatch", "price", "pack", "unpack", "view", "judge"];
 
 impl Call {
     pub fn index(&self) -> usize {
@@ -20,6 +21,7 @@ impl Call {
             Call::Pack { .. } => 2,
             Call::Unpack { .. } => 3,
             Call::View { .. } => 4,
+            Call::Judge { .. } => 5,
         }
     }
 
@@ -28,7 +30,7 @@ impl Call {
     }
 }
 
-/// Rows as bytes, 4 to a number, most significant byte first.
-pub fn bytes_of(rows: &[u32]) -> Vec<u8> {
-    rows.iter().flat_map(|number| number.to_be_bytes()).collect()
+/// Numbers of 32 bits as bytes, 4 to a number, most significant byte first.
+pub fn bytes_of(numbers: &[u32]) -> Vec<u8> {
+    numbers.iter().flat_map(|number| number.to_be_bytes()).collect()
 }

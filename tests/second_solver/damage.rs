@@ -68,7 +68,7 @@ fn pack_rows(case: &Case, rows: Vec<u32>) -> Call {
 }
 
 /// Three small units, each with a zone.
-fn base(random: &mut Random, edition: i128) -> Case {
+pub fn base(random: &mut Random, edition: i128) -> Case {
     let units = (0..3).map(|_| zoned_unit(random, edition)).collect();
     with_demand(units, edition, random)
 }
@@ -358,6 +358,23 @@ fn damaged_by(case: &Case, number: u32, random: &mut Random) -> Vec<u8> {
     let mut file = solver::encode(case);
     damage_file(&mut file, number, random);
     file
+}
+
+/// Files of three units, one that is refused with each number from 2 to 10 and, in edition 2, 18; and two that are with 11: for their
+/// demand, and for a unit that must run and cannot.
+pub fn refused_files(edition: i128, random: &mut Random) -> Vec<Vec<u8>> {
+    let case = base(random, edition);
+    let mut files: Vec<Vec<u8>> = (2..=6).map(|number| damaged_by(&case, number, random)).collect();
+    for number in numbers_of_units(edition) {
+        files.push(damaged_by(&case, *number, random));
+    }
+    files.push(solver::encode(&Case { demand: 320_000, ..case.clone() }));
+    let mut stuck = case;
+    let unit = &mut stuck.units[random.below(3)];
+    let previous = if unit.greatest < 10_000 { unit.greatest + 1 } else { unit.least - 1 };
+    *unit = Unit { mark: 1, previous, up: 0, down: 0, ..unit.clone() };
+    files.push(solver::encode(&stuck));
+    files
 }
 
 /// A file, and in edition 1 rows, with two faults, each a number and a unit. Where both set one number of a unit, the first has it.

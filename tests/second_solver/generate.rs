@@ -2,6 +2,7 @@
 
 use crate::calls::Call;
 use crate::damage;
+use crate::outputs;
 use crate::random::Random;
 use crate::solver::{self, Case, Unit};
 use crate::vectors;
@@ -22,7 +23,7 @@ fn kind(name: &'static str, times: usize, make: fn(&mut Random) -> Vec<Call>) ->
 }
 
 pub fn kinds() -> Vec<Kind> {
-    [accepted_kinds(), damaged_kinds(), view_kinds()].concat()
+    [accepted_kinds(), damaged_kinds(), view_kinds(), judged_kinds()].concat()
 }
 
 /// Kinds of accepted files: some of each are dispatched.
@@ -99,6 +100,14 @@ fn view_kinds() -> Vec<Kind> {
         kind("viewed-registers", 2, viewed_registers),
         kind("views-at-limits", 1, views_at_limits),
         kind("damaged-views", 1, damage::damaged_views),
+    ]
+}
+
+fn judged_kinds() -> Vec<Kind> {
+    vec![
+        kind("judged-vectors", 1, outputs::judged_vectors),
+        kind("judged-outputs", 40, outputs::judged_outputs),
+        kind("judged-lists", 1, outputs::judged_lists),
     ]
 }
 
@@ -442,7 +451,7 @@ fn four_zones(random: &mut Random, edition: i128) -> Vec<Call> {
     calls
 }
 
-fn ramps_that_cut_zones(random: &mut Random, edition: i128) -> Vec<Call> {
+pub fn ramps_that_cut_zones(random: &mut Random, edition: i128) -> Vec<Call> {
     let mut units = vec![small_unit(random, edition), small_unit(random, edition)];
     for unit in &mut units {
         set_any_window(unit, random);

@@ -4,6 +4,8 @@ pub mod branches;
 pub mod calls;
 pub mod damage;
 pub mod generate;
+pub mod judged;
+pub mod outputs;
 pub mod promise;
 pub mod random;
 pub mod solver;

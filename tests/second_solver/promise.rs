@@ -1,7 +1,8 @@
-//! Demand 3 by brute force: all allocations of a small case, and all multipliers from 0 to 65,536.
+//! Demand 3, and what is promised of judgements, by brute force: all allocations of a small case, and all multipliers from 0 to
+//! 65,536.
 
 use crate::hex;
-use crate::solver::{self, Allocation, Case, Offer, Refused, Reply};
+use crate::solver::{self, Allocation, Case, Judged, Offer, Refused, Reply};
 
 /// Whether a case is small enough: how many allocations it has, and how many permitted outputs for each multiplier to try.
 pub fn is_small(case: &Case, most_allocations: usize, most_offers: usize) -> bool {
@@ -46,7 +47,7 @@ fn broken_sentence(offers: &[Vec<Offer>], demand_net: i128, cheapest: i128, repl
         None => return Some("the outputs are permitted"),
     };
     let trials = all_trials(offers, demand_net);
-    let greatest_floor = trials.iter().map(|trial| trial.floor).max().expect("a multiplier");
+    let greatest_floor = greatest_floor(&trials);
     let (best, evaluations) = bisection(&trials);
     let best = best.map_or_else(|| greatest_outputs(offers), |multiplier| choices(offers, multiplier));
     let sentences = [
@@ -103,6 +104,10 @@ fn trial(offers: &[Vec<Offer>], demand_net: i128, multiplier: i128) -> Trial {
     }
 }
 
+fn greatest_floor(trials: &[Trial]) -> i128 {
+    trials.iter().map(|trial| trial.floor).max().expect("a multiplier")
+}
+
 /// The least whole number that is, times 100,000, not below the dual value.
 fn rounded_up(dual: i128) -> i128 {
     let quotient = dual / solver::COST_SCALE;
@@ -140,4 +145,85 @@ fn halved(trials: &[Trial], low: usize, high: usize) -> (usize, i128) {
         _ => halved(trials, middle, high),
     };
     (multiplier, middles + 1)
+}
+
+// ---- judgements
+
+/// What brute force finds of a case: the permitted outputs, and if some cover the demand, how cheaply and above which floor.
+struct Known {
+    offers: Vec<Vec<Offer>>,
+    demand_net: i128,
+    covered: Option<Covered>,
+}
+
+struct Covered {
+    cheapest: i128,
+    greatest_floor: i128,
+    reply: Reply,
+}
+
+impl Known {
+    fn of(case: &Case) -> Known {
+        let offers: Vec<Vec<Offer>> = case.units.iter().map(solver::offers).collect();
+        let demand_net = solver::NET_OF_A_STEP * case.demand;
+        let covered = cheapest_covering(&offers, demand_net).map(|cheapest| Covered {
+            cheapest,
+            greatest_floor: greatest_floor(&all_trials(&offers, demand_net)),
+            reply: solver::solve(case).expect("a reply, as something covers"),
+        });
+        Known { offers, demand_net, covered }
+    }
+
+    /// The first sentence that the answer for these outputs breaks.
+    fn broken_sentence(&self, outputs: &[u32], answer: Result<Judged, Refused>) -> Option<&'static str> {
+        let outputs: Vec<i128> = outputs.iter().map(|output| i128::from(*output)).collect();
+        match (&self.covered, answer) {
+            (None, Err(Refused(11))) => None,
+            (None, _) | (Some(_), Err(Refused(11))) => Some("11 exactly when nothing covers"),
+            (Some(_), Err(Refused(19))) if outputs.len() != self.offers.len() => None,
+            (Some(covered), Ok(judged)) if outputs.len() == self.offers.len() => self.broken_by(covered, &outputs, judged),
+            _ => Some("19 exactly for a list of another length"),
+        }
+    }
+
+    fn broken_by(&self, covered: &Covered, outputs: &[i128], judged: Judged) -> Option<&'static str> {
+        let covers = |allocation: &Allocation| solver::total_net(allocation) >= self.demand_net;
+        let (allocation, cost, surplus, distance) = match (permitted_allocation(&self.offers, outputs).filter(covers), judged) {
+            (None, Judged::NotAccepted) => return None,
+            (Some(allocation), Judged::Accepted { cost, surplus, distance }) => (allocation, cost, surplus, distance),
+            _ => return Some("accepted exactly where all outputs are permitted and together cover"),
+        };
+        let reply = &covered.reply;
+        let of_reply = (reply.cost, reply.surplus, reply.gap);
+        let sentences = [
+            (solver::total_cost(&allocation) == cost, "the cost is exact"),
+            (solver::total_net(&allocation) - self.demand_net == surplus, "the surplus is exact"),
+            (cost - distance == covered.greatest_floor, "cost - distance is the greatest floor of all multipliers"),
+            (distance >= 0, "the distance is not negative"),
+            (covered.cheapest >= cost - distance, "nobody spends less than cost - distance"),
+            (outputs != reply.outputs || (cost, surplus, distance) == of_reply, "dispatch's own are judged as it replies"),
+        ];
+        sentences.iter().find(|(holds, _)| !holds).map(|(_, sentence)| *sentence)
+    }
+}
+
+/// Checks judgements of small cases. It keeps what it found of the last file, as the lists for one file follow one another.
+#[derive(Default)]
+pub struct Judgements {
+    last: Option<(Vec<u8>, Known)>,
+    pub checked: u64,
+}
+
+impl Judgements {
+    /// Checks every sentence for an accepted file, a list and the answer. An error has the sentence that fails, and the call.
+    pub fn check(&mut self, file: &[u8], outputs: &[u32], answer: Result<Judged, Refused>) -> Result<(), String> {
+        let last = self.last.take().filter(|(of_file, _)| of_file == file);
+        let known = last.map_or_else(|| Known::of(&solver::decode(file).expect("an accepted file")), |(_, known)| known);
+        let broken = known.broken_sentence(outputs, answer);
+        self.last = Some((file.to_vec(), known));
+        self.checked += 1;
+        broken.map_or(Ok(()), |sentence| {
+            Err(format!("not so: {}\nfile {}\noutputs {:?}\nanswer {:?}", sentence, hex(file), outputs, answer))
+        })
+    }
 }

@@ -377,6 +377,15 @@ impl Problem {
     pub fn surplus(&self, allocation: &[Offer]) -> i128 {
         total_net(allocation) - self.demand_net
     }
+
+    /// The offers of these outputs, one to a unit, where all of them are permitted.
+    fn allocation(&self, outputs: &[u32]) -> Option<Allocation> {
+        self.offers.iter().zip(outputs).map(|(unit, output)| offer_of(unit, i128::from(*output))).collect()
+    }
+}
+
+fn offer_of(offers: &[Offer], output: i128) -> Option<Offer> {
+    offers.iter().find(|offer| offer.output == output).copied()
 }
 
 /// The dual value divided by 100,000, rounded up.
@@ -391,6 +400,11 @@ struct Search {
 }
 
 impl Search {
+    /// The greatest floor of all evaluations. Demand 3 says that no other multiplier has a greater one.
+    fn greatest_floor(&self) -> i128 {
+        self.floors.iter().copied().fold(self.floors[0], i128::max)
+    }
+
     /// Evaluates a multiplier and takes its choices as the best if they cover; tells the surplus of the choices.
     fn visit(&mut self, problem: &Problem, multiplier: i128) -> i128 {
         let evaluation = problem.evaluate(multiplier);
@@ -437,14 +451,14 @@ pub struct Reply {
 
 pub fn solve(case: &Case) -> Result<Reply, Refused> {
     let problem = problem(case)?;
-    let Search { best, floors } = search(&problem);
-    let greatest_floor = floors.iter().copied().fold(floors[0], i128::max);
+    let search = search(&problem);
+    let cost = total_cost(&search.best);
     Ok(Reply {
-        evaluations: floors.len() as i128,
-        cost: total_cost(&best),
-        gap: total_cost(&best) - greatest_floor,
-        surplus: problem.surplus(&best),
-        outputs: best.iter().map(|offer| offer.output).collect(),
+        evaluations: search.floors.len() as i128,
+        cost,
+        gap: cost - search.greatest_floor(),
+        surplus: problem.surplus(&search.best),
+        outputs: search.best.iter().map(|offer| offer.output).collect(),
     })
 }
 
@@ -497,6 +511,27 @@ pub fn price(file: &[u8], multiplier: u32) -> Result<Priced, Refused> {
 
 fn check_multiplier(multiplier: u32) -> Result<(), Refused> {
     refuse_if(i128::from(multiplier) > GREATEST_MULTIPLIER, 14)
+}
+
+// ---- outputs that someone gives
+
+/// What is said of outputs; of accepted ones their cost, their surplus and the distance above the greatest floor.
+#[derive(Clone, Copy, Debug, PartialEq, Eq)]
+pub enum Judged {
+    Accepted { cost: i128, surplus: i128, distance: i128 },
+    NotAccepted,
+}
+
+/// Judges a list of outputs against a file: accepted where each is permitted and together they cover the demand.
+pub fn judge(file: &[u8], outputs: &[u32]) -> Result<Judged, Refused> {
+    let problem = problem(&decode(file)?)?;
+    refuse_if(outputs.len() != problem.offers.len(), 19)?;
+    let covering = problem.allocation(outputs).filter(|allocation| problem.surplus(allocation) >= 0);
+    Ok(covering.map_or(Judged::NotAccepted, |allocation| {
+        let cost = total_cost(&allocation);
+        let distance = cost - search(&problem).greatest_floor();
+        Judged::Accepted { cost, surplus: problem.surplus(&allocation), distance }
+    }))
 }
 
 // ---- the Modbus view
@@ -599,6 +634,18 @@ pub fn panel_view(reply: &[u8], request: &[u8], answer: &mut [u8], lengths: &mut
     let viewed = refuse_if(lengths.is_empty(), 1).and_then(|()| view(reply, request, answer));
     number_of(viewed.map(|length| {
         lengths[0] = length as i64;
+        0
+    }))
+}
+
+pub fn panel_judge(file: &[u8], outputs: &[u32], answers: &mut [i64]) -> u32 {
+    let judged = refuse_if(answers.len() < 4, 1).and_then(|()| judge(file, outputs));
+    number_of(judged.map(|judged| {
+        let numbers = match judged {
+            Judged::Accepted { cost, surplus, distance } => [1, cost, surplus, distance],
+            Judged::NotAccepted => [0; 4],
+        };
+        answers[..4].copy_from_slice(&numbers.map(|number| i64::try_from(number).expect("a number of 64 bits")));
         0
     }))
 }

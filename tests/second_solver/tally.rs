@@ -3,22 +3,31 @@
 use crate::calls::NAMES;
 use crate::solver::Refused;
 
+const CALLS: usize = NAMES.len();
+
 /// The numbers that each call can give by rule 4.3, calls in the order of their indices.
-pub const POSSIBLE: [&[usize]; 5] = [
+pub const POSSIBLE: [&[usize]; CALLS] = [
     &[1, 2, 3, 4, 5, 6, 7, 8, 9, 10, 11, 18],
     &[2, 3, 4, 5, 6, 7, 8, 9, 10, 11, 14, 18],
     &[5, 7, 8, 9, 10, 12, 13],
     &[1, 2, 3, 4, 5, 6, 7, 8, 9, 10],
     &[15, 16, 17],
+    &[2, 3, 4, 5, 6, 7, 8, 9, 10, 11, 18, 19],
 ];
 
-/// The same of the calls in C, where a list too short for the answers gives pricing and the view the number 1 too.
-pub const POSSIBLE_IN_C: [&[usize]; 5] =
-    [POSSIBLE[0], &[1, 2, 3, 4, 5, 6, 7, 8, 9, 10, 11, 14, 18], POSSIBLE[2], POSSIBLE[3], &[1, 15, 16, 17]];
+/// The same of the calls in C, where a list too short for the answers gives pricing, the view and judging the number 1 too.
+pub const POSSIBLE_IN_C: [&[usize]; CALLS] = [
+    POSSIBLE[0],
+    &[1, 2, 3, 4, 5, 6, 7, 8, 9, 10, 11, 14, 18],
+    POSSIBLE[2],
+    POSSIBLE[3],
+    &[1, 15, 16, 17],
+    &[1, 2, 3, 4, 5, 6, 7, 8, 9, 10, 11, 18, 19],
+];
 
 /// Counts by call and number; number 0 stands for an answer.
 #[derive(Default)]
-pub struct Tally([[u64; 19]; 5]);
+pub struct Tally([[u64; 20]; CALLS]);
 
 impl Tally {
     /// Counts a call by its index, and its refusal or none.
@@ -44,7 +53,7 @@ impl Tally {
     }
 
     /// Asserts that every call was answered, and refused by every number that it can give.
-    pub fn assert_complete(&self, possible: [&[usize]; 5]) {
+    pub fn assert_complete(&self, possible: [&[usize]; CALLS]) {
         for ((name, counts), possible) in NAMES.iter().zip(&self.0).zip(possible) {
             assert!(counts[0] > 0, "{} was never answered", name);
             for number in possible {

@@ -1,7 +1,7 @@
 //! Cases with the numbers that are stated for them: the table of rule 17.1, and vectors that see what the table does not.
 
 use crate::hex;
-use crate::solver::{self, Case, Priced, Refused, Reply, Unit};
+use crate::solver::{self, Case, Judged, Priced, Refused, Reply, Unit};
 
 /// The file of case U5 (rule 15.5).
 const U5: &str = "0001000100000005000c001e000000000000271003e800000002000a000000000000000000010004\
@@ -240,6 +240,119 @@ fn check_views() {
     }
 }
 
+/// Outputs that are judged, and what is stated of them.
+pub struct Judgement {
+    pub case: Case,
+    pub outputs: Vec<u32>,
+    expected: Result<Judged, Refused>,
+}
+
+/// Judgements of units in edition 1, or in edition 2 where one of them has a b1.
+fn judgement(demand: i128, units: &[Unit], outputs: &[u32], expected: Result<Judged, Refused>) -> Judgement {
+    let edition = if units.iter().any(|unit| unit.b1 != 0) { 2 } else { 1 };
+    Judgement { case: Case { edition, demand, units: units.to_vec() }, outputs: outputs.to_vec(), expected }
+}
+
+fn accepted(cost: i128, surplus: i128, distance: i128) -> Result<Judged, Refused> {
+    Ok(Judged::Accepted { cost, surplus, distance })
+}
+
+/// The judgements of rule 19.8, and others that tell wrong rules apart.
+pub fn judgements() -> Vec<Judgement> {
+    let not_accepted = Ok(Judged::NotAccepted);
+    let too_many_or_few = Err(Refused(19));
+    let nothing_covers = Err(Refused(11));
+    let u_and_u = [u(), u()];
+    let lossy = Unit { b: 1, ..u() };
+    let ramped = Unit { previous: 5, up: 1, down: 1, ..u_must_run() };
+    let rising = Unit { previous: 5, up: 3, down: 0, ..u() };
+    let running = Unit { previous: 9, up: 1, down: 1, ..u() };
+    let unlike = unlike();
+    let unlike_with_b1 = [Unit { b1: 5_000_000, ..unlike[0].clone() }, Unit { b1: -3_000_000, ..unlike[1].clone() }];
+    let starting = [with_c0(5_000), with_c0(60_000)];
+    vec![
+        // dispatch's own outputs, and others beside them: the distance is not dispatch's gap
+        judgement(5, &[u()], &[7], accepted(119_000, 200_000_000, 42_000)),
+        judgement(5, &[u()], &[8], accepted(144_000, 300_000_000, 67_000)),
+        judgement(0, &[u()], &[0], accepted(0, 0, 0)),
+        judgement(0, &[u()], &[2], accepted(24_000, 200_000_000, 24_000)),
+        // not covered, or inside the zone; its edges, and the demand just met
+        judgement(5, &[u()], &[4], not_accepted),
+        judgement(5, &[u()], &[5], not_accepted),
+        judgement(4, &[u()], &[4], accepted(56_000, 0, 0)),
+        judgement(7, &[u()], &[7], accepted(119_000, 0, 0)),
+        judgement(10, &[u()], &[9], not_accepted),
+        judgement(10, &[u()], &[10], accepted(200_000, 0, 0)),
+        // below least, and above greatest
+        judgement(0, &[u()], &[1], not_accepted),
+        judgement(5, &[u()], &[11], not_accepted),
+        // the greatest floor is not the last one
+        judgement(1, &[u()], &[2], accepted(24_000, 100_000_000, 12_000)),
+        judgement(1, &[u()], &[3], accepted(39_000, 200_000_000, 27_000)),
+        // large numbers, which 16 bits would cut to 7, and any others
+        judgement(5, &[u()], &[65_543], not_accepted),
+        judgement(5, &[u()], &[u32::MAX], not_accepted),
+        // a unit that must run
+        judgement(0, &[u_must_run()], &[0], not_accepted),
+        judgement(0, &[u_must_run()], &[2], accepted(24_000, 200_000_000, 0)),
+        // lists of other lengths, and 11 before them
+        judgement(5, &[u()], &[], too_many_or_few),
+        judgement(5, &[u()], &[7, 7], too_many_or_few),
+        judgement(5, &u_and_u, &[7], too_many_or_few),
+        judgement(11, &[u()], &[], nothing_covers),
+        judgement(11, &[u()], &[10], nothing_covers),
+        // two units: cheaper than dispatch's own 3 and 3
+        judgement(5, &u_and_u, &[2, 3], accepted(63_000, 0, 0)),
+        judgement(5, &u_and_u, &[3, 3], accepted(78_000, 100_000_000, 15_000)),
+        judgement(5, &u_and_u, &[2, 2], not_accepted),
+        judgement(5, &u_and_u, &[7, 0], accepted(119_000, 200_000_000, 56_000)),
+        // 32 units
+        judgement(64, &vec![u(); 32], &[2; 32], accepted(768_000, 0, 0)),
+        judgement(100, &vec![u(); 32], &[[4; 25].as_slice(), &[0; 7]].concat(), accepted(1_400_000, 0, 84_000)),
+        // losses in cover and surplus, and a floor that is rounded up
+        judgement(5, &[lossy.clone()], &[8], accepted(144_000, 299_999_936, 66_999)),
+        judgement(7, &[lossy], &[7], not_accepted),
+        // the ramp window, of which output 0 is not asked
+        judgement(0, &[ramped.clone()], &[4], accepted(56_000, 400_000_000, 0)),
+        judgement(0, &[ramped], &[7], not_accepted),
+        judgement(0, &[rising], &[0], accepted(0, 0, 0)),
+        judgement(0, &[running.clone()], &[7], not_accepted),
+        judgement(0, &[running], &[8], accepted(144_000, 800_000_000, 144_000)),
+        // c0 of a unit that stands
+        judgement(9, &starting, &[9, 0], accepted(176_000, 0, 2_000)),
+        // unlike units: each output is its own unit's
+        judgement(26, &unlike, &[15, 12], accepted(702_747, 99_999_181, 38_999)),
+        judgement(26, &unlike, &[12, 15], not_accepted),
+        judgement(15, &unlike, &[7, 9], accepted(353_012, 99_999_772, 28_489)),
+        judgement(15, &unlike, &[11, 5], accepted(365_232, 99_999_612, 40_709)),
+        judgement(15, &unlike, &[12, 4], not_accepted),
+        // edition 2
+        judgement(15, &unlike_with_b1, &[7, 9], accepted(353_012, 91_999_772, 24_784)),
+        judgement(26, &unlike_with_b1, &[15, 12], accepted(702_747, 60_999_181, 25_059)),
+        judgement(5, &[with_b1(-10_000_000)], &[8], accepted(144_000, 380_000_000, 76_600)),
+        judgement(11, &[with_b1(-10_000_000)], &[10], accepted(200_000, 0, 0)),
+        judgement(2, &[with_b1(10_000_000)], &[2], not_accepted),
+        judgement(5, &[with_b1(10_000_001)], &[], Err(Refused(18))),
+    ]
+}
+
+/// Two unlike units: the first must run, from 5 to 15 by its ramp window and with two zones; the second may stand.
+fn unlike() -> [Unit; 2] {
+    let first =
+        Unit { c0: 50_000, b: 3, greatest: 20, previous: 9, up: 6, down: 4, zones: vec![(4, 7), (11, 13)], ..u_must_run() };
+    let second = Unit { c0: 7, c1: 12_345, c2: 900, b: 1, least: 3, greatest: 12, up: 2, down: 1, zones: vec![], ..u() };
+    [first, second]
+}
+
+fn check_judgements() -> usize {
+    let judgements = judgements();
+    for vector in &judgements {
+        let judged = solver::judge(&solver::encode(&vector.case), &vector.outputs);
+        assert_eq!(judged, vector.expected, "{:?} judged for {:?}", vector.outputs, vector.case);
+    }
+    judgements.len()
+}
+
 /// Asserts every number that is stated; tells how many vectors there are.
 pub fn check() -> usize {
     let u5 = solver::encode(&u5());
@@ -253,7 +366,7 @@ pub fn check() -> usize {
     for vector in &vectors {
         check_vector(vector);
     }
-    vectors.len() + PRICINGS.len() + VIEWS.len() + check_edition_2()
+    vectors.len() + PRICINGS.len() + VIEWS.len() + check_edition_2() + check_judgements()
 }
 
 /// Asserts what is stated of edition 2 beside its cases; tells how many numbers that is.

@@ -3,10 +3,11 @@
 use second_solver::branches::Reached;
 use second_solver::calls::{bytes_of, Call};
 use second_solver::generate::{accepted_kinds, kinds};
+use second_solver::promise::{self, Judgements};
 use second_solver::random::Random;
-use second_solver::solver::{self, Refused};
+use second_solver::solver::{self, Judged, Refused};
 use second_solver::tally::{Tally, POSSIBLE};
-use second_solver::{hex, promise, vectors};
+use second_solver::{hex, vectors};
 
 const SEED: u64 = 1;
 const BUFFER_BYTES: usize = 1_600;
@@ -24,6 +25,7 @@ struct Files {
     tally: Tally,
     reached: Reached,
     promises: usize,
+    judgements: Judgements,
 }
 
 fn main() {
@@ -40,7 +42,8 @@ fn main() {
     std::fs::write(input_path, input(&files.records)).expect(input_path);
     std::fs::write(output_path, output(&files)).expect(output_path);
     println!("{} vectors as stated", vectors);
-    println!("{} calls, {} dispatches checked by brute force", files.tally.total(), files.promises);
+    let (calls, dispatches, judgements) = (files.tally.total(), files.promises, files.judgements.checked);
+    println!("{} calls, {} dispatches and {} judgements checked by brute force", calls, dispatches, judgements);
     for line in files.reached.lines() {
         println!("{}", line);
     }
@@ -88,7 +91,7 @@ fn output(files: &Files) -> String {
 }
 
 fn record(what: u16, kind: usize, number: u32, room: usize, content: &[u8]) -> Vec<u8> {
-    assert!(kind < 64 && content.len() <= 2_560);
+    assert!(kind < 64 && content.len() <= 4_096);
     let mut bytes = what.to_be_bytes().to_vec();
     bytes.extend((kind as u16).to_be_bytes());
     bytes.extend(number.to_be_bytes());
@@ -122,6 +125,11 @@ impl Files {
                 let (line, refused) = view(reply, request, *room);
                 (record(5, kind, reply.len() as u32, *room, &[&reply[..], request].concat()), line, refused)
             }
+            Call::Judge { file, outputs } => {
+                self.check_judgement(file, outputs);
+                let (line, refused) = judge(file, outputs);
+                (record(6, kind, file.len() as u32, 0, &[&file[..], &bytes_of(outputs)].concat()), line, refused)
+            }
         };
         self.records.push(record);
         self.lines.push(line);
@@ -130,8 +138,7 @@ impl Files {
     }
 
     fn check_promise(&mut self, file: &[u8]) {
-        let small = |case: &solver::Case| promise::is_small(case, MOST_ALLOCATIONS, MOST_OFFERS);
-        if solver::decode(file).map_or(false, |case| small(&case)) {
+        if is_small(file) {
             let mut reply = [0; BUFFER_BYTES];
             let answer = solver::dispatch(file, &mut reply);
             if let Err(message) = promise::check(file, answer.map(|length| &reply[..length])) {
@@ -140,6 +147,19 @@ impl Files {
             self.promises += 1;
         }
     }
+
+    fn check_judgement(&mut self, file: &[u8], outputs: &[u32]) {
+        if is_small(file) {
+            if let Err(message) = self.judgements.check(file, outputs, solver::judge(file, outputs)) {
+                panic!("{}", message);
+            }
+        }
+    }
+}
+
+/// Whether a file is accepted and small enough for brute force.
+fn is_small(file: &[u8]) -> bool {
+    solver::decode(file).map_or(false, |case| promise::is_small(&case, MOST_ALLOCATIONS, MOST_OFFERS))
 }
 
 // ---- the line of each call, and the number of its refusal
@@ -192,6 +212,14 @@ fn unpack(file: &[u8], room: usize) -> (String, Option<Refused>) {
             (line, None)
         }
         Err(refused) => (format!("unpack refused {} {}", refused.0, kept(&buffer, FILL_NUMBER)), Some(refused)),
+    }
+}
+
+fn judge(file: &[u8], outputs: &[u32]) -> (String, Option<Refused>) {
+    match solver::judge(file, outputs) {
+        Ok(Judged::Accepted { cost, surplus, distance }) => (format!("judge accepted {} {} {}", cost, surplus, distance), None),
+        Ok(Judged::NotAccepted) => ("judge not accepted".to_string(), None),
+        Err(refused) => (format!("judge refused {}", refused.0), Some(refused)),
     }
 }
 

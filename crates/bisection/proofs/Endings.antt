@@ -20,8 +20,8 @@ use Rattle.rules.proofs.Demand3.{case-accepted, demand3}
 use Rattle.pricing.specs.Totals.{HoldsOutputs}
 use Rattle.pricing.specs.Step1.{First}
 use Rattle.pricing.proofs.Offers.{held-proper}
-use Rattle.bisection.specs.declared.search.Allocation as code-allocation
-use Rattle.bisection.specs.declared.search.Found as code-found
+use Rattle.bisection.specs.declared.steps.Allocation as code-allocation
+use Rattle.bisection.specs.declared.steps.Found as code-found
 use Rattle.bisection.specs.declared.reply.Reply as code-reply
 use Rattle.bisection.specs.ReplyHeld.{replyHeld}
 use Rattle.bisection.specs.Search.{Holding, Searches}
@@ -36,9 +36,12 @@ stateable {t = t} s {f} h =
     let proper = held-proper p in
     record {
       covers = omega (arith, best-covers q proper (s .solves), found .best .net, s .holds .demanded);
-      cost = omega (arith, h .sized .cost, p .few);
-      floor = rw (found .floor, found .best .cost) (floor-at-most-cost q proper (s .solves));
-      positive = rw (found .floor) (greatest-floor-not-negative q proper (s .solves));
+      measurable =
+          record {
+            range = omega (arith, h .sized .cost, p .few);
+            above = rw (found .floor, found .best .cost) (floor-at-most-cost q proper (s .solves));
+            positive = rw (found .floor) (greatest-floor-not-negative q proper (s .solves));
+          };
     }
 
 -- and what is stated is the rules' solution
@@ -51,10 +54,10 @@ module _ {file coefficients ends ranges outputs : List ℕ} {n t c w : ℕ} (f :
   abbrev best : code-allocation.Allocation
   best = record { outputs = outputs; cost = c; net = w }
 
-  holding : Holding coefficients ends ranges n t (problemIn file)
+  pub holding : Holding coefficients ends ranges n t (problemIn file)
   holding = record { problem = f .site .holds; demanded = f .site .demanded }
 
-  greatest-held : HoldsOutputs (problemIn file) (greatestOutputs (problemIn file)) outputs (record { cost = c; net = w })
+  pub greatest-held : HoldsOutputs (problemIn file) (greatestOutputs (problemIn file)) outputs (record { cost = c; net = w })
   unfolding greatestOutputs
   greatest-held = f .allocates .held (problemIn file) (f .site .holds)
 

@@ -13,9 +13,9 @@ use Rattle.rules.specs.Choice.{selected, dualValue, floor, greatestFloor}
 use Rattle.rules.specs.Bisection.{Found, step4}
 use Rattle.rules.proofs.Economics.Steps.{step4-equal, step4-covers, step4-short, step4-ends}
 use Rattle.pricing.specs.Totals.{HoldsOutputs, Sized}
-use Rattle.bisection.specs.declared.search.Allocation as code-allocation
-use Rattle.bisection.specs.declared.search.Selected as code-selected
-use Rattle.bisection.specs.declared.search.Found as code
+use Rattle.bisection.specs.declared.steps.Allocation as code-allocation
+use Rattle.bisection.specs.declared.steps.Selected as code-selected
+use Rattle.bisection.specs.declared.steps.Found as code
 use Rattle.bisection.specs.Search.{sumsOf, allocated, Selects, HoldsFound, Started, halved, Halves}
 
 -- the greatest floor with one multiplier more

@@ -12,9 +12,9 @@ use Rattle.rules.specs.Choice.{selected, floor, greatestFloor}
 use Rattle.rules.specs.Bisection.{Found, step3, search, greatestOutputs, found}
 use Rattle.rules.proofs.Economics.Steps.{step3-short, step3-equal, step3-covers, search-covers, search-short}
 use Rattle.pricing.specs.Totals.{HoldsOutputs, Sized}
-use Rattle.bisection.specs.declared.search.Allocation as code-allocation
-use Rattle.bisection.specs.declared.search.Selected as code-selected
-use Rattle.bisection.specs.declared.search.Found as code
+use Rattle.bisection.specs.declared.steps.Allocation as code-allocation
+use Rattle.bisection.specs.declared.steps.Selected as code-selected
+use Rattle.bisection.specs.declared.steps.Found as code
 use Rattle.bisection.specs.Search.{sumsOf, allocated, Selects, HoldsFound, Halves, Searches}
 use Rattle.bisection.proofs.Halving.{floor-more}
 

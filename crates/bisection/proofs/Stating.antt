@@ -1,4 +1,4 @@
--- The reply's subtractions: the gap in signed 64 bits and the surplus in unsigned ones are the rules'.
+-- The reply's subtractions: the distance of a cost above a floor in signed 64 bits, and the reply that states what the search found.
 use Prim.Native.Nat.{ℕ, _+_, _-_, _≤_, _<_}
 use native.Mathlib.Omega.{arith}
 use mathlib.Core.Path.{_≡_, sym, ap₂, _∙_}
@@ -13,60 +13,51 @@ use Rattle.rules.specs.Bisection.{replyOf}
 use Rattle.fields.proofs.Integers.{up, dn, Is, itself, is-pos, is-minus, cast, fits, kept, not-negative, size-is, up-is, one-zero, ints}
 use Rattle.rules.proofs.Economics.Quantities.{natural-up}
 use Rattle.bisection.specs.declared.reply.Reply as code-reply
-use Rattle.bisection.specs.declared.search.Found as code-found
-use Rattle.bisection.specs.Solved.{Stateable, States}
+use Rattle.bisection.specs.declared.steps.Found as code-found
+use Rattle.bisection.specs.Solved.{Measurable, States}
 
-module _ {t : ℕ} {f : code-found.Found} (s : Stateable t f) (fitted : SFits w64 (f .floor)) where
+module _ {cost : ℕ} {floor : ℤ} (s : Measurable cost floor) (fitted : SFits w64 floor) where
   abbrev computed : ℤ
-  computed = toZ w64 (f .best .cost) -ℤ toZ w64 (ofZ w64 (f .floor))
+  computed = toZ w64 cost -ℤ toZ w64 (ofZ w64 floor)
 
   -- cost − floor, as it is computed; the floor lies between 0 and the cost
-  between : (dn (f .floor) ≡ 0) × (up (f .floor) ≤ f .best .cost)
-  between = (omega (arith, ints, s .positive, is-pos 0, one-zero (f .floor)), omega (arith, ints, s .floor, is-pos (f .best .cost), s .positive, is-pos 0, one-zero (f .floor)))
+  between : (dn floor ≡ 0) × (up floor ≤ cost)
+  between = (omega (arith, ints, s .positive, is-pos 0, one-zero floor), omega (arith, ints, s .above, is-pos cost, s .positive, is-pos 0, one-zero floor))
 
-  difference : Is computed (f .best .cost + 0) (0 + up (f .floor))
+  difference : Is computed (cost + 0) (0 + up floor)
   difference =
-      let read : Is (toZ w64 (ofZ w64 (f .floor))) (up (f .floor)) 0 = record { is = rw (toZ-ofZ {w = w64} fitted) (omega (arith, between)) } in
-      is-minus (cast (f .best .cost) (omega (arith, s .cost))) read
+      let read : Is (toZ w64 (ofZ w64 floor)) (up floor) 0 = record { is = rw (toZ-ofZ {w = w64} fitted) (omega (arith, between)) } in
+      is-minus (cast cost (omega (arith, s .range))) read
 
-  pub gap-fits : SFits w64 computed
-  gap-fits = fits difference (omega (arith, s .cost)) (omega (arith, between, s .cost))
+  pub distance-fits : SFits w64 computed
+  distance-fits = fits difference (omega (arith, s .range)) (omega (arith, between, s .range))
 
-  again : Is (toZ w64 (ofZ w64 computed)) (f .best .cost + 0) (0 + up (f .floor))
-  again = kept difference (omega (arith, s .cost)) (omega (arith, between, s .cost))
+  again : Is (toZ w64 (ofZ w64 computed)) (cost + 0) (0 + up floor)
+  again = kept difference (omega (arith, s .range)) (omega (arith, between, s .range))
 
-  pub gap-not-negative : T (nonNeg (toZ w64 (ofZ w64 computed)))
-  gap-not-negative = not-negative again (omega (arith, between))
+  pub distance-not-negative : T (nonNeg (toZ w64 (ofZ w64 computed)))
+  distance-not-negative = not-negative again (omega (arith, between))
 
-  gap-size : natAbs (toZ w64 (ofZ w64 computed)) ≡ f .best .cost - up (f .floor)
-  gap-size = size-is again (omega (arith, between)) ∙ omega arith
+  size : natAbs (toZ w64 (ofZ w64 computed)) ≡ cost - up floor
+  size = size-is again (omega (arith, between)) ∙ omega arith
 
-  pub gap-small : natAbs (toZ w64 (ofZ w64 computed)) < 18446744073709551616
-  gap-small = omega (arith, gap-size, s .cost)
+  pub distance-small : natAbs (toZ w64 (ofZ w64 computed)) < 18446744073709551616
+  distance-small = omega (arith, size, s .range)
 
-  gap-is : natAbs (toZ w64 (ofZ w64 computed)) ≡ natural (pos (f .best .cost) -ℤ f .floor)
-  gap-is = gap-size ∙ sym (natural-up (pos (f .best .cost) -ℤ f .floor) ∙ up-is (is-minus (is-pos (f .best .cost)) (itself (f .floor))) ∙ omega (arith, between))
+  pub distance-is : natAbs (toZ w64 (ofZ w64 computed)) ≡ natural (pos cost -ℤ floor)
+  distance-is = size ∙ sym (natural-up (pos cost -ℤ floor) ∙ up-is (is-minus (is-pos cost) (itself floor)) ∙ omega (arith, between))
 
-  abbrev reply : code-reply.Reply
-  reply =
-      record {
-        evaluations = f .evaluations;
-        cost = f .best .cost;
-        gap = natAbs (toZ w64 (ofZ w64 computed));
-        surplus = f .best .net - t;
-        outputs = f .best .outputs;
-      }
-
-  pub states : States t f reply
-  unfolding replyOf
-  states =
-      record {
-        held = λ q i g h. λ n.
-            record {
-              evaluations = h .evaluations n;
-              cost = h .best .cost n;
-              gap = (gap-is ∙ ap₂ (λ (k : ℕ) (z : ℤ). natural (pos k -ℤ z)) (h .best .cost) (h .floor)) n;
-              surplus = ap₂ (λ (k d : ℕ). k - d) (h .best .net) i n;
-              outputs = h .best .places n;
-            };
-      }
+-- a reply with that gap
+pub states : (t : ℕ) (f : code-found.Found) {gap : ℕ} → gap ≡ natural (pos (f .best .cost) -ℤ f .floor) → States t f (record { evaluations = f .evaluations; cost = f .best .cost; gap = gap; surplus = f .best .net - t; outputs = f .best .outputs })
+unfolding replyOf
+states t f e =
+    record {
+      held = λ q i g h. λ n.
+          record {
+            evaluations = h .evaluations n;
+            cost = h .best .cost n;
+            gap = (e ∙ ap₂ (λ (k : ℕ) (z : ℤ). natural (pos k -ℤ z)) (h .best .cost) (h .floor)) n;
+            surplus = ap₂ (λ (k d : ℕ). k - d) (h .best .net) i n;
+            outputs = h .best .places n;
+          };
+    }

@@ -9,9 +9,9 @@ use Rattle.rules.specs.Bisection.{Found, step4, greatestOutputs, found}
 use Rattle.site.specs.Site.{HoldsProblem}
 use Rattle.pricing.specs.declared.Sums.{Sums}
 use Rattle.pricing.specs.Totals.{HoldsOutputs, Sized}
-use Rattle.bisection.specs.declared.search.Allocation as code-allocation
-use Rattle.bisection.specs.declared.search.Selected as code-selected
-use Rattle.bisection.specs.declared.search.Found as code
+use Rattle.bisection.specs.declared.steps.Allocation as code-allocation
+use Rattle.bisection.specs.declared.steps.Selected as code-selected
+use Rattle.bisection.specs.declared.steps.Found as code
 
 -- the arrays hold the problem q, and t is the net that covers its demand
 pub record Holding (coefficients ends ranges : List ℕ) (n t : ℕ) (q : Problem) : Type 0 where

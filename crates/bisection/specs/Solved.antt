@@ -3,24 +3,28 @@ use Prim.Native.Nat.{ℕ, _≤_}
 use mathlib.Core.Path.{_≡_}
 use mathlib.Core.Bool.{true}
 use mathlib.Core.List.{List}
-use lib.IntN.{pos}
+use lib.IntN.{ℤ, pos}
 use lib.ListN.{length}
 use lib.Signed.{_≤ℤ_}
 use Rattle.rules.specs.Problem.{Problem, target}
 use Rattle.rules.specs.Bisection.{Found, greatestOutputs, solvable, replyOf, solve}
 use Rattle.pricing.specs.Totals.{HoldsOutputs, Sized}
 use Rattle.bisection.specs.declared.reply.Reply as code-reply
-use Rattle.bisection.specs.declared.search.Allocation as code-allocation
-use Rattle.bisection.specs.declared.search.Found as code-found
+use Rattle.bisection.specs.declared.steps.Allocation as code-allocation
+use Rattle.bisection.specs.declared.steps.Found as code-found
 use Rattle.bisection.specs.ReplyHeld.{replyHeld}
 use Rattle.bisection.specs.Search.{sumsOf, Holding, HoldsFound}
 
--- gap and surplus are not negative, and the cost is in range
+-- a cost in range, and a floor from 0 to it
+pub record Measurable (cost : ℕ) (floor : ℤ) : Type 0 where
+  pub range : cost ≤ 6432000000000
+  pub above : floor ≤ℤ pos cost
+  pub positive : pos 0 ≤ℤ floor
+
+-- gap and surplus are not negative
 pub record Stateable (t : ℕ) (f : code-found.Found) : Type 0 where
   pub covers : t ≤ f .best .net
-  pub cost : f .best .cost ≤ 6432000000000
-  pub floor : f .floor ≤ℤ pos (f .best .cost)
-  pub positive : pos 0 ≤ℤ f .floor
+  pub measurable : Measurable (f .best .cost) (f .floor)
 
 pub record States (t : ℕ) (f : code-found.Found) (r : code-reply.Reply) : Type 0 where
   pub held : (q : Problem) → t ≡ target q → (g : Found (List ℕ)) → HoldsFound q g f → replyHeld (length (q .offers)) r ≡ replyOf q g

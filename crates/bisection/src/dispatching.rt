@@ -1,20 +1,30 @@
 // From a case file's bytes to the reply's: check and decode, search, write.
 ghost use mathlib.Core.Path.{_≡_};
 ghost use Prim.Native.Nat.{_≤_};
+ghost use lib.IntN.{pos, _-ℤ_};
 ghost use lib.ListN.{length};
+ghost use Rattle.rules.specs.Numbers.{natural};
 ghost use Rattle.rules.specs.Refusal.{fileVerdict};
 ghost use Rattle.rules.specs.Calls.{dispatched};
 ghost use Rattle.rules.specs.Promise.{Promise};
-ghost use Rattle.bisection.specs.Solved.{Stateable, States, Solving, Solves};
+ghost use Rattle.bisection.specs.Solved.{Measurable, Stateable, States, Solving, Solves};
 use crate::reply::Reply;
 use crate::reply::write_reply;
-use crate::search::Allocation;
-use crate::search::Found;
-use crate::search::search;
+use crate::steps::Allocation;
+use crate::steps::Found;
+use crate::steps::search;
 use pricing::FirstBest;
 use rules::Dispatched;
 use rules::Refusal;
 use rules::Verdict;
+
+// How far a cost lies above a floor.
+pub fn distance(cost: u64, floor: i64) -> u64
+    requires { ⌜ Measurable cost floor ⌝ }
+    ensures { λ r. ⌜ r ≡ natural (pos cost -ℤ floor) ⌝ }
+{
+    (cost as i64 - floor) as u64
+}
 
 // What the reply states of what the search found, for the net `target` that covers the demand.
 fn stated(target: u64, f: Found) -> Reply
@@ -30,7 +40,7 @@ fn stated(target: u64, f: Found) -> Reply
     Reply {
         evaluations,
         cost,
-        gap: (cost as i64 - floor) as u64,
+        gap: distance(cost, floor),
         surplus: net - target,
         outputs,
     }

@@ -1,6 +1,10 @@
 // The dual bisection (section 11 of docs/SPECIFICATION.md), the reply, and dispatch from a case file's bytes to the reply's.
 mod dispatching;
 mod reply;
-mod search;
+mod steps;
 
 pub use dispatching::dispatch;
+pub use dispatching::distance;
+pub use steps::Allocation;
+pub use steps::Found;
+pub use steps::search;

@@ -14,6 +14,8 @@ use Rattle.rules.specs.declared.Dispatched.{Dispatched}
 use Rattle.rules.specs.declared.Packed.{Packed}
 use Rattle.rules.specs.declared.Priced.{Priced}
 use Rattle.rules.specs.declared.Unpacked.{Unpacked}
+use Rattle.judging.specs.Judging.{judgeVerdict, judgeEnds, judged, numberOfJudged, answersOfJudged, panelJudged}
+use Rattle.judging.specs.declared.Judged.{Judged}
 use Rattle.rules.proofs.Lengths.{replied-length, packed-length}
 
 -- one number, and two, written to the start of a list
@@ -72,3 +74,23 @@ module _ (file rows : List ℕ) (answers : List ℤ) where
   unpack-told h e i f g =
       let same : unpackEnds (unpackVerdict file rows) file rows ≡ _ = e in
       rw (le-ltb (length answers) 2 h, same, i, f, g)
+
+-- ---- judging
+
+pub four-written : (xs : List ℤ) (a b c d : ℤ) → 4 ≤ length xs → set (set (set (set xs 0 a) 1 b) 2 c) 3 d ≡ over (a ∷ b ∷ c ∷ d ∷ []) xs
+four-written [] a b c d h = absurd (omega arith)
+four-written (w ∷ []) a b c d h = absurd (omega arith)
+four-written (w ∷ x ∷ []) a b c d h = absurd (omega arith)
+four-written (w ∷ x ∷ y ∷ []) a b c d h = absurd (omega arith)
+four-written (w ∷ x ∷ y ∷ z ∷ xs) a b c d h = refl
+
+module _ (file outputs : List ℕ) (answers : List ℤ) where
+  pub judge-short : length answers < 4 → {n : ℕ} → n ≡ numberOf BufferTooShort → panelJudged file outputs answers ≡ record { number = n; answers = answers }
+  unfolding panelJudged judgeEnds
+  judge-short h e = rw (lt-ltb (length answers) 4 h, e)
+
+  pub judge-told : 4 ≤ length answers → {a : Judged} → judged file outputs ≡ a → {n : ℕ} {zs : List ℤ} → n ≡ numberOfJudged a → zs ≡ answersOfJudged a answers → panelJudged file outputs answers ≡ record { number = n; answers = zs }
+  unfolding panelJudged judged
+  judge-told h e f g =
+      let same : judgeEnds (judgeVerdict file outputs) file outputs ≡ _ = e in
+      rw (le-ltb (length answers) 4 h, same, f, g)

@@ -1,10 +1,15 @@
 // The panel's calls, as C sees them: a slice is a pointer and then a length, an answer is a number. Each does what the call on
-// slices does and tells its answer in numbers (rules 14.1 to 14.4, 18.8). `include/shahfureel.h` declares them.
+// slices does and tells its answer in numbers (rules 14.1 to 14.4, 18.8, 19.7). `include/shahfureel.h` declares them.
 ghost use mathlib.Core.Path.{_≡_};
 ghost use mathlib.Core.Bool.{cond};
+ghost use mathlib.Core.List.{[], _∷_};
 ghost use lib.IntN.{pos};
 ghost use Rattle.rules.specs.Calls.{panelDispatched, panelPriced, panelPacked, panelUnpacked};
+ghost use Rattle.rules.specs.Lists.{over};
 ghost use Rattle.modbus.specs.View.{panelViewed};
+ghost use Rattle.judging.specs.Judging.{panelJudged};
+ghost use Rattle.panel.specs.Required.{Answerable};
+use judging::Judged;
 use modbus::Viewed;
 use rules::Dispatched;
 use rules::Packed;
@@ -96,6 +101,42 @@ pub extern "C" fn shahfureel_view(
         Viewed::Refused(r) => rules::number(r),
         Viewed::Answered(length) => {
             lengths[0] = length as i64;
+            0
+        }
+    }
+}
+
+// Writes the four answers of a judgement to the start of a list.
+fn write_judgement(answers: &mut [i64], accepted: bool, cost: u64, surplus: u64, distance: u64)
+    requires { ⌜ Answerable (now answers) cost surplus distance ⌝ }
+    ensures { λ _. ⌜ now (answers .exit) ≡ over (cond accepted (pos 1) (pos 0) ∷ pos cost ∷ pos surplus ∷ pos distance ∷ []) (now (answers .entry)) ⌝ }
+{
+    answers[0] = flag(accepted);
+    answers[1] = cost as i64;
+    answers[2] = surplus as i64;
+    answers[3] = distance as i64;
+}
+
+#[no_mangle]
+pub extern "C" fn shahfureel_judge(file: &[u8], outputs: &[u32], answers: &mut [i64]) -> u32
+    ensures { λ n. ⌜ panelJudged (now (file .entry)) (now (outputs .entry)) (now (answers .entry)) ≡ record { number = n; answers = now (answers .exit) } ⌝ }
+{
+    if answers.len() < 4 {
+        return rules::number(Refusal::BufferTooShort);
+    }
+    let judged = judging::judge(file, outputs);
+    match judged {
+        Judged::Refused(r) => rules::number(r),
+        Judged::NotAccepted => {
+            write_judgement(answers, false, 0, 0, 0);
+            0
+        }
+        Judged::Accepted {
+            cost,
+            surplus,
+            distance,
+        } => {
+            write_judgement(answers, true, cost, surplus, distance);
             0
         }
     }

@@ -12,6 +12,8 @@ use rules::Refusal;
 pub use totals::dual_of;
 pub use totals::evaluate;
 pub use totals::floor_of;
+pub use units::cost_of;
+pub use units::net_of;
 
 // A unit's priced cost at a multiplier: square × p × p + linear × p + constant at a running output p.
 pub struct Curve {

@@ -30,14 +30,14 @@ use Rattle.rules.proofs.Economics.Solution.{reply-promise, floor-not-ne
 
 -- ---- an allocation has an output for each unit, none above 10,000
 
-allocation-length : (us : List Unit) (ps : List ℕ) → allocation us ps ≡ true → length ps ≡ length us
+pub allocation-length : (us : List Unit) (ps : List ℕ) → allocation us ps ≡ true → length ps ≡ length us
 unfolding allocation
 allocation-length [] [] e = refl
 allocation-length [] (p ∷ ps) e = absurd (true≢false (sym e))
 allocation-length (u ∷ us) [] e = absurd (true≢false (sym e))
 allocation-length (u ∷ us) (p ∷ ps) e = ap suc (allocation-length us ps (and-true (permitted u p) (allocation us ps) .0 e .1))
 
-allocation-small : (us : List Unit) (ps : List ℕ) → Every Sound us → allocation us ps ≡ true → Every (λ p. p ≤ 10000) ps
+pub allocation-small : (us : List Unit) (ps : List ℕ) → Every Sound us → allocation us ps ≡ true → Every (λ p. p ≤ 10000) ps
 unfolding allocation
 allocation-small [] [] s e = tt
 allocation-small [] (p ∷ ps) s e = absurd (true≢false (sym e))

@@ -28,6 +28,7 @@ use Rattle.rules.specs.declared.Refusal.the-variants.{
   RequestLengthInvalid,
   AnswerTooShort,
   LossesOutOfRange,
+  OutputCountInvalid,
 }
 use Rattle.rules.specs.declared.Dispatched.{Dispatched}
 use Rattle.rules.specs.declared.Packed.{Packed}
@@ -56,6 +57,7 @@ number-below-30 ReplyMalformed = omega arith
 number-below-30 RequestLengthInvalid = omega arith
 number-below-30 AnswerTooShort = omega arith
 number-below-30 LossesOutOfRange = omega arith
+number-below-30 OutputCountInvalid = omega arith
 
 -- ---- lengths
 

@@ -121,3 +121,16 @@ module _ {A B : Type 0} where
   pub pairwise-map : (P : A → Type 0) (R : A → B → Type 0) (f : A → B) → ((x : A) → P x → R x (f x)) → (xs : List A) → Every P xs → Pairwise R xs (map f xs)
   pairwise-map P R f h [] p = tt
   pairwise-map P R f h (x ∷ xs) p = (h x (p .0), pairwise-map P R f h xs (p .1))
+
+  -- element by element
+  pub pairwise-from : (R : A → B → Type 0) (d : A) (e : B) (xs : List A) (ys : List B) → length xs ≡ length ys → ((j : ℕ) → j < length xs → R (getD xs j d) (getD ys j e)) → Pairwise R xs ys
+  pairwise-from R d e [] [] l h = tt
+  pairwise-from R d e [] (y ∷ ys) l h = absurd (omega arith)
+  pairwise-from R d e (x ∷ xs) [] l h = absurd (omega arith)
+  pairwise-from R d e (x ∷ xs) (y ∷ ys) l h = (h 0 (omega arith), pairwise-from R d e xs ys (omega arith) (λ j k. h (suc j) (omega arith)))
+
+  pub pairwise-at : (R : A → B → Type 0) (d : A) (e : B) (xs : List A) (ys : List B) → Pairwise R xs ys → (j : ℕ) → j < length xs → R (getD xs j d) (getD ys j e)
+  pairwise-at R d e [] ys p j h = absurd (omega arith)
+  pairwise-at R d e (x ∷ xs) [] p j h = absurd p
+  pairwise-at R d e (x ∷ xs) (y ∷ ys) p zero h = p .0
+  pairwise-at R d e (x ∷ xs) (y ∷ ys) p (suc j) h = pairwise-at R d e xs ys (p .1) j (omega arith)

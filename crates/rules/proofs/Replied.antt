@@ -4,6 +4,7 @@ use mathlib.Core.List.{List, [], _++_, append-nil}
 use Prim.Native.Nat.{ℕ, _+_, _*_, _≤_}
 use native.Mathlib.Omega.{arith}
 use lib.Dec.{ltb}
+use borrow.Author.Tests.{ltb-false}
 use lib.ListN.{length, take, drop-of-length-le}
 use lib.Seq.{take-append-seam}
 use Rattle.fields.specs.Field.{field}
@@ -19,7 +20,7 @@ use Rattle.rules.specs.declared.Verdict.{Verdict}
 use Rattle.rules.specs.declared.Verdict.the-variants.{Accepted, Refused}
 use Rattle.rules.specs.declared.Dispatched.{Dispatched}
 use Rattle.rules.proofs.Lists.{length-each}
-use Rattle.rules.proofs.Verdicts.{then-accepted}
+use Rattle.rules.proofs.Verdicts.{then-accepted, refuses-accepted}
 use Rattle.rules.proofs.Encoding.SoundFile.{SoundHead, sound-file, units-sound}
 use Rattle.rules.proofs.Encoding.ReplyBytes.{length-reply, reply-spelled}
 use Rattle.rules.proofs.Demand3.{case-accepted, reply-count, reply-fits}
@@ -47,7 +48,7 @@ module _ (file : List ℕ) (e : caseVerdict file ≡ Accepted) where
   unfolding caseOf
   units-count = length-each (count file) (unitAt file)
 
-  few-units : length (caseOf file .units) ≤ 32
+  pub few-units : length (caseOf file .units) ≤ 32
   few-units = omega (arith, units-count, head .count-greatest)
 
   outputs-count : length (solve (problemIn file) .outputs) ≡ count file
@@ -75,6 +76,7 @@ module _ (file : List ℕ) (e : caseVerdict file ≡ Accepted) where
 -- ---- of a call that replied
 
 pub record Replied (file buffer : List ℕ) (n : ℕ) : Type 0 where
+  pub room : 92 ≤ length buffer
   pub accepted : caseVerdict file ≡ Accepted
   pub long : n ≡ length (written file)
   pub reply : take n (dispatched file buffer .reply) ≡ written file
@@ -88,8 +90,10 @@ pub replied : (file buffer : List ℕ) (n : ℕ) → dispatched file buffer .ans
 unfolding dispatched dispatchVerdict
 replied file buffer n e =
     let (verdict, long, reply) = ended (dispatchVerdict file buffer) file buffer n e in
+    let (room, accepted) = then-accepted (ltb (length buffer) 92 refuses BufferTooShort) (caseVerdict file) .0 verdict in
     record {
-      accepted = then-accepted (ltb (length buffer) 92 refuses BufferTooShort) (caseVerdict file) .0 verdict .1;
+      room = ltb-false (length buffer) 92 (refuses-accepted (ltb (length buffer) 92) BufferTooShort .0 room);
+      accepted = accepted;
       long = long;
       reply = rw (long, reply) (take-append-seam (written file) _);
     }

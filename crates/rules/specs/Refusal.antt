@@ -29,6 +29,7 @@ use Rattle.rules.specs.declared.Refusal.the-variants.{
   RequestLengthInvalid,
   AnswerTooShort,
   LossesOutOfRange,
+  OutputCountInvalid,
 }
 use Rattle.rules.specs.declared.Verdict.{Verdict}
 use Rattle.rules.specs.declared.Verdict.the-variants.{Accepted, Refused}
@@ -55,6 +56,7 @@ numberOf ReplyMalformed = 15
 numberOf RequestLengthInvalid = 16
 numberOf AnswerTooShort = 17
 numberOf LossesOutOfRange = 18
+numberOf OutputCountInvalid = 19
 
 -- what checking finds, as a number: 0 where nothing is refused
 abbrev pub numberOfVerdict : Verdict → ℕ

@@ -40,6 +40,8 @@ pub enum Refusal {
     AnswerTooShort,
     // b1 out of range, or losses so large that net does not rise with the output.
     LossesOutOfRange,
+    // Outputs to be judged that are not one to a unit.
+    OutputCountInvalid,
 }
 
 pub fn number(r: Refusal) -> u32
@@ -64,6 +66,7 @@ pub fn number(r: Refusal) -> u32
         Refusal::RequestLengthInvalid => 16,
         Refusal::AnswerTooShort => 17,
         Refusal::LossesOutOfRange => 18,
+        Refusal::OutputCountInvalid => 19,
     }
 }
 

@@ -12,6 +12,7 @@ use crate::printing::number;
 use crate::printing::rest;
 use crate::printing::signed;
 use crate::printing::word;
+use judging::Judged;
 use modbus::Viewed;
 use rules::Dispatched;
 use rules::Packed;
@@ -194,6 +195,41 @@ fn view(given: &[u8], at: usize, room: usize, bytes: &mut [u8]) -> u32 {
     }
 }
 
+// Prints a judgement.
+fn print_judged(cost: u64, surplus: u64, distance: u64) {
+    word(b"accepted");
+    number(b" ", cost);
+    number(b" ", surplus);
+    number(b" ", distance);
+    word(b"\n");
+}
+
+// The first `at` bytes are the file, the others the outputs, 4 bytes each.
+fn judge(given: &[u8], at: usize, numbers: &mut [u32]) -> u32 {
+    let end = least(at, given.len());
+    let count = read_rows(&given[end..], numbers);
+    let answer = judging::judge(&given[..end], &numbers[..count]);
+    match answer {
+        Judged::Refused(r) => {
+            let n = print_refusal(r);
+            word(b"\n");
+            n
+        }
+        Judged::NotAccepted => {
+            word(b"not accepted\n");
+            0
+        }
+        Judged::Accepted {
+            cost,
+            surplus,
+            distance,
+        } => {
+            print_judged(cost, surplus, distance);
+            0
+        }
+    }
+}
+
 // The call that the record names, on what it gives.
 pub fn run(
     call: u16,
@@ -213,6 +249,8 @@ pub fn run(
         unpack(given, room, numbers)
     } else if call == 5 {
         view(given, argument as usize, room, bytes)
+    } else if call == 6 {
+        judge(given, argument as usize, numbers)
     } else {
         word(b"call\n");
         0

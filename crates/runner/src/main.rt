@@ -36,6 +36,8 @@ fn print_call(call: u16) {
         word(b"unpack ");
     } else if call == 5 {
         word(b"view ");
+    } else if call == 6 {
+        word(b"judge ");
     } else {
         word(b"unknown ");
     }
@@ -161,4 +163,5 @@ fn main() {
     print_total(&counts, 3);
     print_total(&counts, 4);
     print_total(&counts, 5);
+    print_total(&counts, 6);
 }

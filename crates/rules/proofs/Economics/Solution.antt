@@ -13,7 +13,7 @@ use Rattle.rules.specs.Layout.{Case}
 use Rattle.rules.specs.Problem.{totalCost, totalNet, Problem, unitsOf, target, problemOf}
 use Rattle.rules.specs.Choice.{selected, dualValue, floor, greatestFloor}
 use Rattle.rules.specs.Bisection.{Found, greatestOutputs, solvable, found, replyOf, solve}
-use Rattle.rules.specs.Promise.{Permitted, Covering, costLessGap, ReplyPromise}
+use Rattle.rules.specs.Promise.{Permitted, Covering, GreatestFloor, costLessGap, ReplyPromise}
 use Rattle.rules.proofs.Lists.{Every}
 use Rattle.fields.proofs.Integers.{up, dn, is-pos, is-minus, up-is, same, itself, ints}
 use Rattle.rules.proofs.Sound.{Sound}
@@ -23,7 +23,7 @@ use Rattle.rules.proofs.Economics.Search.{Searched, searched, below-fir
 use Rattle.rules.proofs.Economics.Solvable.{units-of-problem, given-allocation, allocation-given, solvable-available, solvable-covers, case-proper}
 
 -- a gap that is not negative is exact
-gap-exact : (n : ℕ) (z : ℤ) → z ≤ℤ pos n → pos n -ℤ pos (natural (pos n -ℤ z)) ≡ z
+pub gap-exact : (n : ℕ) (z : ℤ) → z ≤ℤ pos n → pos n -ℤ pos (natural (pos n -ℤ z)) ≡ z
 gap-exact n z h =
     let d = is-minus (is-pos n) (itself z) in
     let e : natural (pos n -ℤ z) ≡ n + dn z - (0 + up z) = natural-up (pos n -ℤ z) ∙ up-is d in
@@ -47,9 +47,17 @@ module _ (q : Problem) (proper : Every Proper (q .offers)) (solves : solvable q 
   pub best-covers : target q ≤ totalNet (unitsOf q) (found q .best)
   best-covers = shown .covers
 
-  pub floor-at-most-cost : greatestFloor q (found q .evaluated) ≤ℤ pos (totalCost (unitsOf q) (found q .best))
+  pub floor-at-most : (ps : List ℕ) → Given (q .offers) ps → target q ≤ totalNet (unitsOf q) ps → greatestFloor q (found q .evaluated) ≤ℤ pos (totalCost (unitsOf q) ps)
   unfolding floor
-  floor-at-most-cost = shown .bound (found q .best) (shown .allowed) (shown .covers)
+  floor-at-most ps = shown .bound ps
+
+  pub floor-at-most-cost : greatestFloor q (found q .evaluated) ≤ℤ pos (totalCost (unitsOf q) (found q .best))
+  floor-at-most-cost = floor-at-most (found q .best) (shown .allowed) (shown .covers)
+
+  -- the greatest floor evaluated is that of all multipliers
+  pub greatest-floor : GreatestFloor q (greatestFloor q (found q .evaluated))
+  unfolding floor
+  greatest-floor = record { one = shown .one; greatest = shown .greatest }
 
   pub greatest-floor-not-negative : pos 0 ≤ℤ greatestFloor q (found q .evaluated)
   unfolding floor
@@ -74,13 +82,13 @@ module _ (q : Problem) (proper : Every Proper (q .offers)) (solves : solvable q 
 
 module _ (c : Case) where
   -- cost and net of a case's problem are those of the case
-  same-cost : (ps : List ℕ) → totalCost (unitsOf (problemOf c)) ps ≡ totalCost (c .units) ps
+  pub same-cost : (ps : List ℕ) → totalCost (unitsOf (problemOf c)) ps ≡ totalCost (c .units) ps
   same-cost ps = ap (λ (us : List Unit). totalCost us ps) (units-of-problem c)
 
-  same-net : (ps : List ℕ) → totalNet (unitsOf (problemOf c)) ps ≡ totalNet (c .units) ps
+  pub same-net : (ps : List ℕ) → totalNet (unitsOf (problemOf c)) ps ≡ totalNet (c .units) ps
   same-net ps = ap (λ (us : List Unit). totalNet us ps) (units-of-problem c)
 
-  same-target : target (problemOf c) ≡ 100000000 * c .demand
+  pub same-target : target (problemOf c) ≡ 100000000 * c .demand
   unfolding problemOf
   same-target = refl
 
@@ -91,12 +99,12 @@ module _ (c : Case) where
   unfolding problemOf
   permitted-given ps h = allocation-given (c .units) ps h
 
-  given-permitted : (ps : List ℕ) → Given (problemOf c .offers) ps → Permitted c ps
+  pub given-permitted : (ps : List ℕ) → Given (problemOf c .offers) ps → Permitted c ps
   unfolding problemOf
   given-permitted ps h = given-allocation (c .units) ps h
 
 pub reply-promise : (c : Case) → Every Sound (c .units) → solvable (problemOf c) ≡ true → ReplyPromise c (solve (problemOf c))
-unfolding solve replyOf floor
+unfolding solve replyOf
 reply-promise c s solves =
     let q = problemOf c in
     let best = found q .best in
@@ -109,8 +117,8 @@ reply-promise c s solves =
       covering = le-leb (100000000 * c .demand) (totalNet (c .units) best) (omega (arith, law .covers, same-net c best, same-target c));
       cost = same-cost c best;
       surplus = omega (arith, law .covers, same-net c best, same-target c);
-      nobodySpendsLess = λ ps a h. rw (exact, ← same-cost c ps) (law .bound ps (permitted-given c ps a) (covering-net c ps h));
-      greatestFloor = rw exact (record { one = law .one; greatest = law .greatest });
+      nobodySpendsLess = λ ps a h. rw (exact, ← same-cost c ps) (floor-at-most q proper solves ps (permitted-given c ps a) (covering-net c ps h));
+      greatestFloor = rw exact (greatest-floor q proper solves);
       cheapest = λ m k h. omega (arith, law .cheapest m k (covering-net c (selected m q) h), same-cost c (selected m q));
       evaluations = refl;
       atMost18 = law .few;

@@ -1,4 +1,4 @@
--- `bisection::search::halve` meets its contract. The loop keeps what step 4 has found so far (`Halving`); each way out of a turn is one of its three outcomes.
+-- `bisection::steps::halve` meets its contract. The loop keeps what step 4 has found so far (`Halving`); each way out of a turn is one of its three outcomes.
 use Prim.Native.Nat.{_/_, _<_}
 use lib.Pow.{pow-pos}
 use native.Mathlib.Omega.{arith}
@@ -15,8 +15,8 @@ use Rattle.rules.specs.Numbers.{dividedUp}
 use Rattle.rules.specs.Problem.{Problem, target}
 use Rattle.bisection.specs.Search.{Holding}
 use Rattle.bisection.proofs.Halving.{half, Halving, halving-starts, halving-ends, equal-net, covering, uncovered}
-use Rattle.bisection.proofs.search.halve.Statement.{statement}
-use Rattle.bisection.proofs.search.halve.Tie as tie
+use Rattle.bisection.proofs.steps.halve.Statement.{statement}
+use Rattle.bisection.proofs.steps.halve.Tie as tie
 
 abbrev Inv-loop : tie.InvT-loop
 Inv-loop coefficients ends ranges n t best₀ floor₀ evaluations₀ outputs₀ low₀ width₀ best floor evaluations outputs low width =

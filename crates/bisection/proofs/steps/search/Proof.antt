@@ -1,4 +1,4 @@
--- `bisection::search::search` meets its contract: each return is one end of steps 2 and 3 (`Searching`).
+-- `bisection::steps::search` meets its contract: each return is one end of steps 2 and 3 (`Searching`).
 use native.Mathlib.Omega.{arith}
 use mathlib.Core.Path.{_≡_, ap, ap₂, _∙_}
 use mathlib.Core.Bool.{cond}
@@ -13,8 +13,8 @@ use Rattle.rules.specs.Numbers.{dividedUp}
 use Rattle.rules.specs.Problem.{Problem, target}
 use Rattle.bisection.specs.Search.{Holding}
 use Rattle.bisection.proofs.Searching.{step2-stops, step3-uncovered, step3-stops, step3-halves}
-use Rattle.bisection.proofs.search.search.Statement.{statement}
-use Rattle.bisection.proofs.search.search.Tie as tie
+use Rattle.bisection.proofs.steps.search.Statement.{statement}
+use Rattle.bisection.proofs.steps.search.Tie as tie
 
 select-requires : tie.Need-select-requires
 select-requires c κs = search needs

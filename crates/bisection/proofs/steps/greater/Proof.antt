@@ -1,11 +1,11 @@
--- `bisection::search::greater` meets its contract: the test is that of the definition.
+-- `bisection::steps::greater` meets its contract: the test is that of the definition.
 use mathlib.Core.Path.{_≡_}
 use mathlib.Core.Bool.{true, false}
 use lib.Signed.{leZ}
 use mir.Syntax.{w64}
 use mir.Facts.{toZ-ofZ}
-use Rattle.bisection.proofs.search.greater.Statement.{statement}
-use Rattle.bisection.proofs.search.greater.Tie as tie
+use Rattle.bisection.proofs.steps.greater.Statement.{statement}
+use Rattle.bisection.proofs.steps.greater.Tie as tie
 
 returns : tie.Need-returns
 returns c =

@@ -1,11 +1,11 @@
--- `bisection::search::select` meets its contract: what it takes is the choices (`Selecting`).
+-- `bisection::steps::select` meets its contract: what it takes is the choices (`Selecting`).
 use mir.Syntax.{w64}
 use mir.Facts.{toZ-ofZ}
 use borrow.Author.Needs.{needs}
 use Rattle.fields.proofs.Integers.{is-same}
 use Rattle.bisection.proofs.Selecting.{selects}
-use Rattle.bisection.proofs.search.select.Statement.{statement}
-use Rattle.bisection.proofs.search.select.Tie as tie
+use Rattle.bisection.proofs.steps.select.Statement.{statement}
+use Rattle.bisection.proofs.steps.select.Tie as tie
 
 evaluate-requires : tie.Need-evaluate-requires
 evaluate-requires c κs = search needs

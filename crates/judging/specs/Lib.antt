@@ -1,0 +1,4 @@
+pub mod Judging
+pub mod Claims
+pub mod Held
+pub mod Cases
