@@ -5,6 +5,9 @@ judge.restype = ctypes.c_uint32
 judge.argtypes = [ctypes.c_char_p, ctypes.c_size_t, ctypes.POINTER(ctypes.c_uint32), ctypes.c_size_t,
                   ctypes.POINTER(ctypes.c_int64), ctypes.c_size_t]
 file, steps = open(sys.argv[1], "rb").read(), [int(word) for word in sys.argv[2:]]
+if any(p < 0 for p in steps):
+    sys.exit("an output is below 0")
+steps = [min(p, 2**32 - 1) for p in steps]  # ctypes would cut a larger number, and none so large is permitted
 outputs, answers = (ctypes.c_uint32 * len(steps))(*steps), (ctypes.c_int64 * 4)()
 refusal = judge(file, len(file), outputs, len(outputs), answers, len(answers))
 if refusal:

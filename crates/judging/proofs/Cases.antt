@@ -1,7 +1,7 @@
 -- The closed cases. The greatest floor of all multipliers is that of the evaluated ones, so a judgement by these computes; each row is then one computation.
 use Prim.Native.Nat.{ℕ, _-_, _*_}
 use mathlib.Core.Path.{_≡_, refl, ap, ap₂, _∙_}
-use mathlib.Core.Bool.{Bool, true, false, cond}
+use mathlib.Core.Bool.{cond}
 use mathlib.Core.List.{List, [], _∷_, map}
 use lib.Dec.{ltb}
 use lib.IntN.{ℤ, pos, _-ℤ_}
@@ -23,8 +23,8 @@ use Rattle.rules.proofs.Encoding.SoundFile.{units-sound}
 use Rattle.rules.proofs.Demand3.{case-accepted}
 use Rattle.judging.specs.declared.Judged.{Judged}
 use Rattle.judging.specs.Judging.{acceptable, told, judgeVerdict, judgeEnds, judged, numberOfJudged, answersOfJudged, PanelJudgeResult, panelJudged}
-use Rattle.judging.specs.Cases.{Row, judgements, PanelRow, panelJudgements}
-use Rattle.judging.proofs.Judgements.{floors-evaluated}
+use Rattle.judging.specs.Cases.{Row, fourZones, judgements, PanelRow, panelJudgements}
+use Rattle.judging.proofs.Judgements.{floors-evaluated, verdict-parts}
 
 -- ---- a judgement by the multipliers that the search evaluates
 
@@ -48,10 +48,6 @@ by-evaluated Verdict.Accepted file ps h =
     let same = ap (λ (z : ℤ). Judged.Accepted (totalCost (c .units) ps) (totalNet (c .units) ps - 100000000 * c .demand) (natural (pos (totalCost (c .units) ps) -ℤ z))) (floors-evaluated c ps (units-sound file (both .0)) (both .1)) in
     ap (λ (a : Judged). cond (acceptable c ps) a Judged.NotAccepted) same
 
-case-first : (file ps : List ℕ) → judgeVerdict file ps ≡ Verdict.Accepted → caseVerdict file ≡ Verdict.Accepted
-unfolding judgeVerdict
-case-first file ps e = then-accepted (caseVerdict file) _ .0 e .0
-
 -- ---- the rows
 
 each-row : {A B : Type 0} (f g : A → B) → ((x : A) → f x ≡ g x) → (xs : List A) → map f xs ≡ map g xs
@@ -62,13 +58,13 @@ abbrev computed : Row → Judged
 computed r = endsByEvaluated (judgeVerdict (r .file) (r .outputs)) (r .file) (r .outputs)
 
 judgements-compute : map computed judgements ≡ map (λ r. r .answer) judgements
-unfolding judgements endsByEvaluated toldByEvaluated judgeVerdict acceptable numberAfter signed bytes bytesOfEach zones edgeOfBody unitOfBody bodyOfUnit caseOf contentsFrom bodiesOf fileOf editionVerdict headVerdict contentsVerdict zonesAscend unitVerdict bodyVerdict fileVerdict permitted cost linearFactor net totalCost totalNet offer problemOf pricedCost leastFrom choiceOf total choices selected dualValue dividedUp floor greatestAt step4 step3 search greatestOutputs solvable found natural caseVerdict allocation u5 site site2 shortHead otherEdition noUnit demandAbove byteTooMany noZone linearCostAbove edgeAtLeast otherMark withLinearLoss U lossy marked costing
+unfolding judgements endsByEvaluated toldByEvaluated judgeVerdict acceptable numberAfter signed bytes bytesOfEach zones edgeOfBody unitOfBody bodyOfUnit caseOf contentsFrom bodiesOf fileOf editionVerdict headVerdict contentsVerdict zonesAscend unitVerdict bodyVerdict fileVerdict permitted cost linearFactor net totalCost totalNet offer problemOf pricedCost leastFrom choiceOf total choices selected dualValue dividedUp floor greatestAt step4 step3 search greatestOutputs solvable found natural caseVerdict allocation u5 site site2 shortHead otherEdition noUnit demandAbove byteTooMany noZone linearCostAbove edgeAtLeast otherMark withLinearLoss U lossy marked costing fourZones
 judgements-compute = refl
 
 pub judgements-hold : map (λ r. judged (r .file) (r .outputs)) judgements ≡ map (λ r. r .answer) judgements
 unfolding judged
 judgements-hold =
-    each-row (λ r. judged (r .file) (r .outputs)) computed (λ r. by-evaluated (judgeVerdict (r .file) (r .outputs)) (r .file) (r .outputs) (case-first (r .file) (r .outputs))) judgements
+    each-row (λ r. judged (r .file) (r .outputs)) computed (λ r. by-evaluated (judgeVerdict (r .file) (r .outputs)) (r .file) (r .outputs) (λ e. verdict-parts (r .file) (r .outputs) e .0)) judgements
     ∙ judgements-compute
 
 -- ---- as C sees them
@@ -80,12 +76,12 @@ abbrev panelComputed : PanelRow → PanelJudgeResult
 panelComputed r = let a = endsByEvaluated (panelVerdict r) (r .file) (r .outputs) in record { number = numberOfJudged a; answers = answersOfJudged a (r .before) }
 
 panel-judgements-compute : map panelComputed panelJudgements ≡ map (λ r. record { number = r .number; answers = r .after }) panelJudgements
-unfolding panelJudgements endsByEvaluated toldByEvaluated judgeVerdict acceptable numberAfter signed bytes bytesOfEach zones edgeOfBody unitOfBody bodyOfUnit caseOf contentsFrom bodiesOf fileOf editionVerdict headVerdict contentsVerdict zonesAscend unitVerdict bodyVerdict fileVerdict permitted cost linearFactor net totalCost totalNet offer problemOf pricedCost leastFrom choiceOf total choices selected dualValue dividedUp floor greatestAt step4 step3 search greatestOutputs solvable found natural caseVerdict allocation u5 shortHead U
+unfolding panelJudgements endsByEvaluated toldByEvaluated judgeVerdict acceptable numberAfter signed bytes bytesOfEach zones edgeOfBody unitOfBody bodyOfUnit caseOf contentsFrom bodiesOf fileOf editionVerdict headVerdict contentsVerdict zonesAscend unitVerdict bodyVerdict fileVerdict permitted cost linearFactor net totalCost totalNet offer problemOf pricedCost leastFrom choiceOf total choices selected dualValue dividedUp floor greatestAt step4 step3 search greatestOutputs solvable found natural caseVerdict allocation u5 shortHead U costing
 panel-judgements-compute = refl
 
 pub panel-judgements-hold : map (λ r. panelJudged (r .file) (r .outputs) (r .before)) panelJudgements ≡ map (λ r. record { number = r .number; answers = r .after }) panelJudgements
 unfolding panelJudged
 panel-judgements-hold =
     each-row (λ r. panelJudged (r .file) (r .outputs) (r .before)) panelComputed
-    (λ r. ap (λ (a : Judged). record { number = numberOfJudged a; answers = answersOfJudged a (r .before) }) (by-evaluated (panelVerdict r) (r .file) (r .outputs) (λ e. case-first (r .file) (r .outputs) (then-accepted (ltb (length (r .before)) 4 refuses BufferTooShort) (judgeVerdict (r .file) (r .outputs)) .0 e .1)))) panelJudgements
+    (λ r. ap (λ (a : Judged). record { number = numberOfJudged a; answers = answersOfJudged a (r .before) }) (by-evaluated (panelVerdict r) (r .file) (r .outputs) (λ e. verdict-parts (r .file) (r .outputs) (then-accepted (ltb (length (r .before)) 4 refuses BufferTooShort) (judgeVerdict (r .file) (r .outputs)) .0 e .1) .0))) panelJudgements
     ∙ panel-judgements-compute

@@ -1,40 +1,41 @@
 -- What holds of every judgement: accepted exactly where the outputs are permitted and cover, at a distance from the greatest of all floors; and a dispatch's own outputs at its own cost, surplus and gap.
-use Prim.Native.Nat.{ℕ, _+_, _*_, _-_, _≤_}
+use Prim.Native.Nat.{ℕ, _*_, _-_, _≤_}
 use native.Mathlib.Omega.{arith}
-use mathlib.Core.Path.{_≡_, refl, sym, ap, ap₂, subst, _∙_}
+use mathlib.Core.Path.{_≡_, refl, sym, ap₂, subst, _∙_}
 use mathlib.Core.Bool.{Bool, true, false, cond, true≢false}
 use mathlib.Core.List.{List}
 use lib.IntN.{ℤ, pos, _-ℤ_}
 use lib.ListN.{length}
 use lib.Signed.{_≤ℤ_}
 use borrow.Author.Tests.{leb-true}
-use Rattle.fields.proofs.Integers.{up, dn, is-pos, is-minus, up-is, itself, ints}
+use Rattle.fields.proofs.Integers.{is-pos, is-minus, up-is, ints}
 use Rattle.rules.specs.Numbers.{natural}
 use Rattle.rules.specs.Layout.{Case, caseOf}
 use Rattle.rules.specs.Problem.{totalCost, totalNet, problemOf}
 use Rattle.rules.specs.Choice.{greatestFloor}
-use Rattle.rules.specs.Bisection.{Reply, solvable, found}
+use Rattle.rules.specs.Bisection.{solvable}
+use Rattle.rules.specs.Refusal.{fileVerdict}
 use Rattle.rules.specs.Calls.{caseVerdict, dispatched}
-use Rattle.rules.specs.Promise.{Permitted, Covering, GreatestFloor, ReplyPromise, costLessGap, replyIn}
+use Rattle.rules.specs.Promise.{Permitted, Covering, ReplyPromise, costLessGap, replyIn}
 use Rattle.rules.specs.declared.Refusal.the-variants.{NoAllocation}
 use Rattle.rules.specs.declared.Verdict.{Verdict}
 use Rattle.rules.specs.declared.Verdict.the-variants.{Accepted, Refused}
 use Rattle.rules.specs.declared.Dispatched.{Dispatched}
 use Rattle.rules.proofs.Lists.{Every}
 use Rattle.rules.proofs.Sound.{Sound}
-use Rattle.rules.proofs.Verdicts.{accepts}
 use Rattle.rules.proofs.Encoding.SoundFile.{units-sound}
 use Rattle.rules.proofs.Economics.Quantities.{natural-up}
-use Rattle.rules.proofs.Economics.Solvable.{case-proper}
+use Rattle.rules.proofs.Economics.Solvable.{case-proper, unsolvable}
 use Rattle.rules.proofs.Economics.Solution.{gap-exact, same-cost, covering-net, permitted-given, floor-at-most, greatest-floor, greatest-floor-not-negative}
 use Rattle.rules.proofs.Economics.Totals.{total-cost-range, total-net-range}
 use Rattle.rules.proofs.Demand3.{case-accepted, allocation-length, allocation-small, demand3}
 use Rattle.rules.proofs.Replied.{few-units, replied}
 use Rattle.judging.specs.declared.Judged.{Judged}
 use Rattle.judging.specs.Judging.{acceptable, multipliers, told, judgeVerdict, judgeEnds, judged}
-use Rattle.judging.specs.Claims.{Told, Judgement, Judges, AcceptsDispatch, NotBelowDispatch}
+use Rattle.judging.specs.Held.{SmallAnswer}
+use Rattle.judging.specs.Claims.{Told, Judgement, Judges, AcceptsDispatch, NotBelowDispatch, AcceptsExactly, OneBound}
 use Rattle.judging.proofs.Floors.{all-floors}
-use Rattle.judging.proofs.Judgements.{acceptable-is, not-acceptable, floors-evaluated, judged-is}
+use Rattle.judging.proofs.Judgements.{acceptable-is, floors-evaluated, verdict-parts, judged-is}
 
 -- ---- of a case
 
@@ -135,8 +136,8 @@ accepts-dispatch file buffer n e =
 -- ---- what an accepted answer tells of the call
 
 answered : (file ps : List ℕ) (cost surplus distance : ℕ) → judged file ps ≡ Judged.Accepted cost surplus distance → (caseVerdict file ≡ Accepted) × (length ps ≡ length (caseOf file .units))
-unfolding judged judgeVerdict judgeEnds
-answered file ps cost surplus distance e = simp accepts at (by (judgeVerdict file ps) e)
+unfolding judged judgeEnds
+answered file ps cost surplus distance e = verdict-parts file ps (by (judgeVerdict file ps) e)
   where
     by : (v : Verdict) → judgeEnds v file ps ≡ Judged.Accepted cost surplus distance → v ≡ Accepted
     by Accepted f = refl
@@ -148,12 +149,28 @@ not-below-dispatch file ps buffer n cost surplus distance e f =
     let t = judges file ps accepted each .tells cost surplus distance f in
     rw (t .costs) (promised file buffer n e .nobodySpendsLess ps (t .permitted) (t .covering))
 
--- ---- the numbers that are told are in range
+-- outputs that cover leave step 1 nothing to refuse
+passes : (file ps : List ℕ) → fileVerdict file ≡ Accepted → Permitted (caseOf file) ps → Covering (caseOf file) ps → caseVerdict file ≡ Accepted
+unfolding caseVerdict
+passes file ps f a k = by (solvable (problemOf (caseOf file))) refl
+  where
+    by : (t : Bool) → solvable (problemOf (caseOf file)) ≡ t → caseVerdict file ≡ Accepted
+    by true e = rw (f, e)
+    by false e = absurd (omega (arith, unsolvable (problemOf (caseOf file)) (case-proper (caseOf file) (units-sound file f)) e ps (permitted-given (caseOf file) ps a), covering-net (caseOf file) ps k))
 
-pub record SmallAnswer (c s d : ℕ) : Type 0 where
-  pub cost : c ≤ 6432000000000
-  pub surplus : s ≤ 35200000000000
-  pub distance : d ≤ 6432000000000
+pub accepts-exactly : AcceptsExactly judged
+accepts-exactly file ps f = (
+  (λ (a, k). judges file ps (passes file ps f a k) (allocation-length (caseOf file .units) ps a) .accepts .0 (a, k)),
+  λ (x, s, d, e). let (accepted, each) = answered file ps x s d e in judges file ps accepted each .accepts .1 (x, s, d, e),
+)
+
+pub one-bound : OneBound judged
+one-bound file ps buffer n cost surplus distance e f =
+    let (accepted, each) = answered file ps cost surplus distance f in
+    let t = judges file ps accepted each .tells cost surplus distance f in
+    sym (all-floors (problemOf (caseOf file)) _ (t .greatestFloor)) ∙ all-floors (problemOf (caseOf file)) _ (promised file buffer n e .greatestFloor)
+
+-- ---- the numbers that are told are in range
 
 pub told-small : (file ps : List ℕ) (cost surplus distance : ℕ) → judged file ps ≡ Judged.Accepted cost surplus distance → SmallAnswer cost surplus distance
 told-small file ps cost surplus distance f =

@@ -10,7 +10,7 @@ use Rattle.rules.specs.Lists.{each}
 use Rattle.rules.specs.Problem.{Problem}
 use Rattle.rules.specs.Choice.{floor, greatestFloor}
 use Rattle.rules.specs.Promise.{GreatestFloor}
-use Rattle.rules.proofs.Economics.Greatest.{Greatest, greatest-of}
+use Rattle.rules.proofs.Economics.Greatest.{greatest-of}
 use Rattle.judging.specs.Judging.{multipliers}
 
 -- each of f 0, f 1, .. is a member, and no other is

@@ -1,7 +1,7 @@
 -- A judgement by where it ends: each way out of the code is one case of the definition.
-use Prim.Native.Nat.{ℕ, _+_, _*_, _-_, _≤_}
+use Prim.Native.Nat.{ℕ, _*_, _-_, _≤_}
 use native.Mathlib.Omega.{arith}
-use mathlib.Core.Path.{_≡_, refl, sym, ap, ap₂, _∙_}
+use mathlib.Core.Path.{_≡_, refl, sym, ap₂, _∙_}
 use mathlib.Core.Bool.{Bool, true, false, cond}
 use mathlib.Core.Logic.{_↔_}
 use mathlib.Core.List.{List}
@@ -19,7 +19,7 @@ use Rattle.rules.specs.declared.Refusal.{Refusal}
 use Rattle.rules.specs.declared.Refusal.the-variants.{OutputCountInvalid}
 use Rattle.rules.specs.declared.Verdict.the-variants.{Accepted, Refused}
 use Rattle.rules.proofs.Lists.{Every}
-use Rattle.rules.proofs.Verdicts.{and-true}
+use Rattle.rules.proofs.Verdicts.{and-true, accepts}
 use Rattle.rules.proofs.Sound.{Sound}
 use Rattle.rules.proofs.Encoding.SoundFile.{units-sound}
 use Rattle.rules.proofs.Economics.Allocations.{Given}
@@ -64,6 +64,10 @@ module _ (c : Case) (ps : List ℕ) where
         λ i. Judged.Accepted (cost i) (surplus i) (distance i)
 
 -- ---- the call
+
+pub verdict-parts : (file ps : List ℕ) → judgeVerdict file ps ≡ Accepted → (caseVerdict file ≡ Accepted) × (length ps ≡ length (caseOf file .units))
+unfolding judgeVerdict
+verdict-parts file ps e = simp accepts at e
 
 module _ (file ps : List ℕ) where
   pub judged-refused : {r : Refusal} → caseVerdict file ≡ Refused r → judged file ps ≡ Judged.Refused r

@@ -1,5 +1,5 @@
 -- A loop that adds up given outputs unit by unit: the outputs so far are offered, and what is summed, with what is still to come, is the whole.
-use mathlib.Core.Path.{_≡_, sym, ap, ap₂, _∙_, subst}
+use mathlib.Core.Path.{_≡_, sym, ap, _∙_, subst}
 use mathlib.Core.List.{List, [], _∷_, map}
 use Prim.Native.Nat.{ℕ, _+_, _≤_, _<_}
 use native.Mathlib.Numerals.{add-one}
@@ -14,7 +14,7 @@ use Rattle.rules.proofs.Economics.Chosen.{Among}
 use Rattle.rules.proofs.Economics.Allocations.{Given}
 use Rattle.rules.proofs.Economics.Quantities.{cost-range, net-range}
 use Rattle.site.specs.Site.{first, last, Within, Coefficients, noOffer, HoldsProblem}
-use Rattle.pricing.specs.Totals.{Held, Sized}
+use Rattle.pricing.specs.Totals.{Sized}
 use Rattle.judging.specs.Held.{Summable, Summing, SumHeld}
 
 abbrev units : List Offer → List Unit

@@ -26,6 +26,9 @@ pub record Row : Type 0 where
   pub outputs : List ℕ
   pub answer : Judged
 
+unfoldable pub fourZones : Unit
+fourZones = record { c0 = 0; c1 = 10000; c2 = 1000; b = 0; b1 = pos 0; least = 2; greatest = 20; previous = 0; up = 0; down = 0; mark = 0; zoneCount = 4; edges = 4 ∷ 6 ∷ 8 ∷ 10 ∷ 12 ∷ 14 ∷ 16 ∷ 18 ∷ [] }
+
 unfoldable pub judgements : List Row
 judgements =
     -- dispatch's own outputs at another cost, surplus or distance
@@ -42,7 +45,7 @@ judgements =
     ∷ record { file = fileOf 7 (U ∷ []); outputs = 7 ∷ []; answer = Judged.Accepted 119000 0 0 }
     -- the last step before cover taken for it
     ∷ record { file = fileOf 10 (U ∷ []); outputs = 9 ∷ []; answer = Judged.NotAccepted }
-    -- the greatest output prohibited; the floor of 65,536 left out
+    -- the greatest output prohibited
     ∷ record { file = fileOf 10 (U ∷ []); outputs = 10 ∷ []; answer = Judged.Accepted 200000 0 0 }
     -- an output above the greatest
     ∷ record { file = fileOf 10 (U ∷ []); outputs = 11 ∷ []; answer = Judged.NotAccepted }
@@ -54,7 +57,8 @@ judgements =
     ∷ record { file = fileOf 1 (U ∷ []); outputs = 3 ∷ []; answer = Judged.Accepted 39000 200000000 27000 }
     -- an output taken modulo 65,536
     ∷ record { file = u5; outputs = 65543 ∷ []; answer = Judged.NotAccepted }
-    -- an output taken modulo 2 ^ 32 less 1, or cut to the greatest
+    -- a large output cut to the greatest; modulo 65,536 below 2 ^ 31 alone
+    ∷ record { file = u5; outputs = 2147483655 ∷ []; answer = Judged.NotAccepted }
     ∷ record { file = u5; outputs = 4294967295 ∷ []; answer = Judged.NotAccepted }
     -- standing accepted of a unit that must run
     ∷ record { file = fileOf 0 (marked 1 0 0 0 ∷ []); outputs = 0 ∷ []; answer = Judged.NotAccepted }
@@ -77,7 +81,7 @@ judgements =
     -- 19 before 3
     ∷ record { file = otherEdition; outputs = []; answer = Judged.Refused EditionUnknown }
     -- 19 before 4
-    ∷ record { file = noUnit; outputs = []; answer = Judged.Refused CountOutOfRange }
+    ∷ record { file = noUnit; outputs = 7 ∷ []; answer = Judged.Refused CountOutOfRange }
     -- 19 before 5
     ∷ record { file = demandAbove; outputs = []; answer = Judged.Refused DemandOutOfRange }
     -- 19 before 6
@@ -106,6 +110,8 @@ judgements =
     ∷ record { file = fileOf 7 (lossy ∷ []); outputs = 7 ∷ []; answer = Judged.NotAccepted }
     -- the ramp window's lower end prohibited
     ∷ record { file = fileOf 0 (marked 1 5 1 1 ∷ []); outputs = 4 ∷ []; answer = Judged.Accepted 56000 400000000 0 }
+    -- the ramp window not asked of the greatest output
+    ∷ record { file = fileOf 0 (marked 1 5 1 1 ∷ []); outputs = 10 ∷ []; answer = Judged.NotAccepted }
     -- the ramp window not asked
     ∷ record { file = fileOf 0 (marked 1 5 1 1 ∷ []); outputs = 7 ∷ []; answer = Judged.NotAccepted }
     -- the ramp window asked of output 0
@@ -126,8 +132,47 @@ judgements =
     ∷ record { file = site2 15; outputs = 7 ∷ 9 ∷ []; answer = Judged.Accepted 353012 91999772 24784 }
     -- b1 left out of the cover: 10 steps net 11
     ∷ record { file = put 7 (0x0B ∷ []) (withLinearLoss 0xFF 0x67 0x69 0x80); outputs = 10 ∷ []; answer = Judged.Accepted 200000 0 0 }
+    -- losses counted twice in the cover
+    ∷ record { file = put 7 (0x09 ∷ []) (withLinearLoss 0x00 0x98 0x96 0x80); outputs = 10 ∷ []; answer = Judged.Accepted 200000 0 0 }
     -- b1 left out of the cover: 2 steps net 1.8
     ∷ record { file = put 7 (0x02 ∷ []) (withLinearLoss 0x00 0x98 0x96 0x80); outputs = 2 ∷ []; answer = Judged.NotAccepted }
+    -- only the first output's permission asked
+    ∷ record { file = fileOf 5 (U ∷ U ∷ []); outputs = 3 ∷ 5 ∷ []; answer = Judged.NotAccepted }
+    -- below the ramp window
+    ∷ record { file = fileOf 0 (marked 1 5 1 1 ∷ []); outputs = 3 ∷ []; answer = Judged.NotAccepted }
+    -- the previous output taken as permitted though a zone prohibits it
+    ∷ record { file = fileOf 0 (marked 1 5 1 1 ∷ []); outputs = 5 ∷ []; answer = Judged.NotAccepted }
+    -- standing accepted of a unit that must run and ran
+    ∷ record { file = fileOf 0 (marked 1 5 1 1 ∷ []); outputs = 0 ∷ []; answer = Judged.NotAccepted }
+    -- previous less down below 0
+    ∷ record { file = fileOf 3 (marked 0 3 2 5 ∷ []); outputs = 4 ∷ []; answer = Judged.Accepted 56000 100000000 17000 }
+    -- the multiplier 65,536 left out
+    ∷ record { file = fileOf 5 (costing 1000000000 10000 1000 0 ∷ []); outputs = 7 ∷ []; answer = Judged.Accepted 1000119000 200000000 672439000 }
+    -- 32 bits for cost, surplus or distance; units behind the second left out
+    ∷ record { file = fileOf 0 (costing 1000000000 10000 1000 0 ∷ costing 1000000000 10000 1000 0 ∷ costing 1000000000 10000 1000 0 ∷ costing 1000000000 10000 1000 0 ∷ costing 1000000000 10000 1000 0 ∷ []); outputs = 10 ∷ 10 ∷ 10 ∷ 10 ∷ 10 ∷ []; answer = Judged.Accepted 5001000000 5000000000 5001000000 }
+    -- the cost of a third unit left out
+    ∷ record { file = fileOf 9 (U ∷ U ∷ U ∷ []); outputs = 3 ∷ 3 ∷ 3 ∷ []; answer = Judged.Accepted 117000 0 0 }
+    -- permission of units behind the second not asked
+    ∷ record { file = fileOf 9 (U ∷ U ∷ U ∷ []); outputs = 3 ∷ 3 ∷ 5 ∷ []; answer = Judged.NotAccepted }
+    -- distance 0 where multiplier 0's choices cover
+    ∷ record { file = fileOf 0 (U ∷ []); outputs = 2 ∷ []; answer = Judged.Accepted 24000 200000000 24000 }
+    -- an output not permitted told before 11
+    ∷ record { file = fileOf 11 (U ∷ []); outputs = 5 ∷ []; answer = Judged.Refused NoAllocation }
+    -- an output not permitted told before 19
+    ∷ record { file = u5; outputs = 5 ∷ 5 ∷ []; answer = Judged.Refused OutputCountInvalid }
+    ∷ record { file = fileOf 5 (U ∷ U ∷ []); outputs = 5 ∷ []; answer = Judged.Refused OutputCountInvalid }
+    -- zeros behind the outputs cut
+    ∷ record { file = u5; outputs = 7 ∷ 0 ∷ []; answer = Judged.Refused OutputCountInvalid }
+    -- step 1 asks only for cover
+    ∷ record { file = fileOf 0 (marked 1 5 0 0 ∷ []); outputs = 5 ∷ []; answer = Judged.Refused NoAllocation }
+    -- 2 ^ 32 less 1 taken for −1, or for standing
+    ∷ record { file = fileOf 0 (U ∷ []); outputs = 4294967295 ∷ []; answer = Judged.NotAccepted }
+    -- the first of two zones left out
+    ∷ record { file = site 15; outputs = 6 ∷ 10 ∷ []; answer = Judged.NotAccepted }
+    -- the third and the fourth zone left out
+    ∷ record { file = fileOf 5 (fourZones ∷ []); outputs = 13 ∷ []; answer = Judged.NotAccepted }
+    ∷ record { file = fileOf 5 (fourZones ∷ []); outputs = 17 ∷ []; answer = Judged.NotAccepted }
+    ∷ record { file = fileOf 5 (fourZones ∷ []); outputs = 11 ∷ []; answer = Judged.Accepted 231000 600000000 155000 }
     ∷ []
 
 -- ---- as C sees them
@@ -152,6 +197,10 @@ panelJudgements =
     record { file = u5; outputs = 7 ∷ []; before = pos 8 ∷ pos 8 ∷ pos 8 ∷ []; number = 1; after = pos 8 ∷ pos 8 ∷ pos 8 ∷ [] }
     -- 2 or 19 before 1
     ∷ record { file = shortHead; outputs = []; before = pos 8 ∷ pos 8 ∷ pos 8 ∷ []; number = 1; after = pos 8 ∷ pos 8 ∷ pos 8 ∷ [] }
+    -- no answer accepted
+    ∷ record { file = u5; outputs = 7 ∷ []; before = []; number = 1; after = [] }
+    -- an answer of 32 bits
+    ∷ record { file = fileOf 0 (costing 1000000000 10000 1000 0 ∷ costing 1000000000 10000 1000 0 ∷ costing 1000000000 10000 1000 0 ∷ costing 1000000000 10000 1000 0 ∷ costing 1000000000 10000 1000 0 ∷ []); outputs = 10 ∷ 10 ∷ 10 ∷ 10 ∷ 10 ∷ []; before = four; number = 0; after = pos 1 ∷ pos 5001000000 ∷ pos 5000000000 ∷ pos 5001000000 ∷ [] }
     -- four answers taken for too few
     ∷ record { file = u5; outputs = 7 ∷ []; before = four; number = 0; after = pos 1 ∷ pos 119000 ∷ pos 200000000 ∷ pos 42000 ∷ [] }
     -- the answers in another order; a fifth written

@@ -1,5 +1,5 @@
 -- Rules 19.3 to 19.6 of docs/SPECIFICATION.md: what holds of every judgement, as statements. (They are proved in proofs/Claims.)
-use Prim.Native.Nat.{ℕ, _+_, _*_, _≤_}
+use Prim.Native.Nat.{ℕ, _+_, _*_}
 use mathlib.Core.List.{List}
 use mathlib.Core.Logic.{_↔_}
 use mathlib.Core.Path.{_≡_}
@@ -8,7 +8,7 @@ use lib.ListN.{length}
 use lib.Signed.{_≤ℤ_}
 use Rattle.rules.specs.Layout.{Case, caseOf}
 use Rattle.rules.specs.Problem.{totalCost, totalNet, problemOf}
-use Rattle.rules.specs.Bisection.{Reply}
+use Rattle.rules.specs.Refusal.{fileVerdict}
 use Rattle.rules.specs.Calls.{caseVerdict, dispatched}
 use Rattle.rules.specs.Promise.{Permitted, Covering, GreatestFloor, costLessGap, replyIn}
 use Rattle.rules.specs.declared.Verdict.{Verdict}
@@ -55,3 +55,18 @@ NotBelowDispatch judge =
     → dispatched file buffer .answer ≡ Dispatched.Replied n
     → judge file ps ≡ Judged.Accepted cost surplus distance
     → costLessGap (replyIn (dispatched file buffer .reply)) ≤ℤ pos cost
+
+-- of every accepted file (rule 4.8) and every list: accepted exactly where the outputs are permitted and cover
+abbrev pub AcceptsExactly : (List ℕ → List ℕ → Judged) → Type 0
+AcceptsExactly judge =
+    (file ps : List ℕ)
+    → fileVerdict file ≡ Verdict.Accepted
+    → (Permitted (caseOf file) ps × Covering (caseOf file) ps) ↔ ((cost surplus distance : ℕ) × (judge file ps ≡ Judged.Accepted cost surplus distance))
+
+-- for one file, cost less distance is one number: the reply's cost less its gap
+abbrev pub OneBound : (List ℕ → List ℕ → Judged) → Type 0
+OneBound judge =
+    (file ps buffer : List ℕ) (n cost surplus distance : ℕ)
+    → dispatched file buffer .answer ≡ Dispatched.Replied n
+    → judge file ps ≡ Judged.Accepted cost surplus distance
+    → pos cost -ℤ pos distance ≡ costLessGap (replyIn (dispatched file buffer .reply))

@@ -1,5 +1,5 @@
 -- What the functions ask and answer over a decoded site: for every problem that its arrays hold.
-use Prim.Native.Nat.{ℕ, _-_, _≤_, _<_}
+use Prim.Native.Nat.{ℕ, _-_, _≤_}
 use mathlib.Core.Path.{_≡_}
 use mathlib.Core.Bool.{Bool, true, false}
 use mathlib.Core.List.{List}
@@ -57,3 +57,9 @@ JudgedOf q t ps (Judged.Refused r) = ⊥
 abbrev pub JudgedHeld : List ℕ → List ℕ → List ℕ → ℕ → ℕ → code-allocation.Allocation → List ℕ → Judged → Type 0
 JudgedHeld coefficients ends ranges n t first ps a =
     (q : Problem) → Holding coefficients ends ranges n t q → HoldsOutputs q (greatestOutputs q) (first .outputs) (sumsOf first) → JudgedOf q t ps a
+
+-- (rule 1.7) the numbers that are told are in range
+pub record SmallAnswer (c s d : ℕ) : Type 0 where
+  pub cost : c ≤ 6432000000000
+  pub surplus : s ≤ 35200000000000
+  pub distance : d ≤ 6432000000000

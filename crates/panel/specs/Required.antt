@@ -3,10 +3,9 @@ use Prim.Native.Nat.{ℕ, _≤_}
 use mathlib.Core.List.{List}
 use lib.IntN.{ℤ}
 use lib.ListN.{length}
+use Rattle.judging.specs.Held.{SmallAnswer}
 
 -- room for four answers, and numbers that signed 64 bits hold
 pub record Answerable (answers : List ℤ) (c s d : ℕ) : Type 0 where
   pub room : 4 ≤ length answers
-  pub cost : c ≤ 6432000000000
-  pub surplus : s ≤ 35200000000000
-  pub distance : d ≤ 6432000000000
+  pub small : SmallAnswer c s d

@@ -28,7 +28,7 @@ use Rattle.rules.specs.declared.Priced.{Priced}
 use Rattle.rules.specs.declared.Packed.{Packed}
 use Rattle.rules.specs.declared.Unpacked.{Unpacked}
 
--- ---- the case: what dispatch and pricing ask of the file, its checks and then step 1 (rule 11.1)
+-- ---- the case: what dispatch, pricing and judging ask of the file, its checks and then step 1 (rule 11.1)
 
 unfoldable pub caseVerdict : List ℕ → Verdict
 caseVerdict file = fileVerdict file then not (solvable (problemIn file)) refuses NoAllocation

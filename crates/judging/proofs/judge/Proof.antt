@@ -1,5 +1,4 @@
 -- `judging::judge` meets its contract: each return is one end of the definition (`Judgements`).
-use native.Mathlib.Omega.{arith}
 use mathlib.Core.Path.{_≡_, sym, subst, _∙_}
 use lib.ListN.{length}
 use denote.Ref.{now}

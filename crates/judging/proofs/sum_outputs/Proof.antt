@@ -1,16 +1,13 @@
 -- `judging::sum_outputs` meets its contract: the loop keeps what `Totalling` says.
 use Prim.Native.Nat.{ℕ, _+_, _-_, _≤_, _<_}
 use native.Mathlib.Omega.{arith}
-use mathlib.Core.Path.{_≡_}
-use lib.ListN.{length, getD}
+use lib.ListN.{getD}
 use denote.Ref.{now}
 use borrow.Author.Tests.{not-true, not-false}
-use borrow.Author.Needs.{needs}
 use Rattle.rules.proofs.Economics.Quantities.{cost-range}
 use Rattle.site.specs.Site.{first, last, Within, noOffer, HoldsOffer}
 use Rattle.pricing.specs.Totals.{Sized}
 use Rattle.pricing.proofs.Regions.{small}
-use Rattle.judging.specs.Held.{Summable}
 use Rattle.judging.proofs.Summing.{Totalling, totalling-starts, not-given, sized-more, totalling-more, totalling-ends}
 use Rattle.judging.proofs.sum_outputs.Statement.{statement}
 use Rattle.judging.proofs.sum_outputs.Tie as tie

@@ -1,6 +1,6 @@
 -- `panel::shahfureel_judge` meets its contract: the call on slices, told to C.
 use Prim.Native.Nat.{_≤_}
-use mathlib.Core.Path.{_≡_, refl, sym, _∙_}
+use mathlib.Core.Path.{refl, sym, _∙_}
 use lib.ListN.{length}
 use denote.Ref.{now}
 use borrow.Author.Needs.{needs}
@@ -20,8 +20,7 @@ write-judgement-requires-2 : tie.Need-write-judgement-requires-2
 write-judgement-requires-2 c κs =
     let x = c .before .before in
     let k = x .before .before in
-    let small = told-small _ _ _ _ _ (sym (k .judge .ensures) ∙ x .judged2 .given .1) in
-    record { room = room k; cost = small .cost; surplus = small .surplus; distance = small .distance }
+    record { room = room k; small = told-small _ _ _ _ _ (sym (k .judge .ensures) ∙ x .judged2 .given .1) }
 
 returns-2 : tie.Need-returns-2
 returns-2 c =

@@ -22,9 +22,9 @@ returns : tie.Need-returns
 returns c =
     let s = c .before in
     let told : toZ w64 (ofZ w64 (c .flag .result)) ≡ c .flag .result = toZ-ofZ {w = w64} (search needs) in
-    let cost : toZ w64 (s .args .cost) ≡ pos (s .args .cost) = toZ-pos w64 (omega (arith, s .pre .cost)) in
-    let surplus : toZ w64 (s .args .surplus) ≡ pos (s .args .surplus) = toZ-pos w64 (omega (arith, s .pre .surplus)) in
-    let distance : toZ w64 (s .args .distance) ≡ pos (s .args .distance) = toZ-pos w64 (omega (arith, s .pre .distance)) in
+    let cost : toZ w64 (s .args .cost) ≡ pos (s .args .cost) = toZ-pos w64 (omega (arith, s .pre .small .cost)) in
+    let surplus : toZ w64 (s .args .surplus) ≡ pos (s .args .surplus) = toZ-pos w64 (omega (arith, s .pre .small .surplus)) in
+    let distance : toZ w64 (s .args .distance) ≡ pos (s .args .distance) = toZ-pos w64 (omega (arith, s .pre .small .distance)) in
     rw (told, cost, surplus, distance, c .flag .ensures) (four-written (now (s .args .answers)) _ _ _ _ (s .pre .room))
 
 pub write-judgement-spec : {M : Type 1} → statement M
