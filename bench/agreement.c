@@ -8,7 +8,7 @@
 #include <stdlib.h>
 #include <string.h>
 
-enum { SMALL_CASES = 20000, DAMAGES = 64, GUARD = 16, FILLED = 0xA5 };
+enum { DAMAGES = 64, GUARD = 16, FILLED = 0xA5 };
 
 static void differ(const char *what, size_t length, uint32_t controller, uint32_t plain)
 {
@@ -190,7 +190,7 @@ static void compare_damaged(uint64_t *state, const struct case_file *c, uint32_t
 
 void compare_small(struct tally *first, struct tally *second)
 {
-    uint64_t state = 20240602, state_of_second = 20240603;
+    uint64_t state = SMALL_CASES_SEED, state_of_second = 20240603;
     static struct case_file c, twin;
     for (int i = 0; i < SMALL_CASES; i++) {
         make_small_case(&state, &c);

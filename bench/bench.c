@@ -220,6 +220,31 @@ static void compare_groups(void)
     printf("\n");
 }
 
+static void print_shares(const char *what, const struct plain_lowering *l)
+{
+    printf("%s: %.2f %% of %llu dispatches, %.2f %% of %llu evaluations", what,
+           100 * (double)l->dispatches_lowered / (double)l->dispatches, (unsigned long long)l->dispatches,
+           100 * (double)l->evaluations_lowered / (double)l->evaluations, (unsigned long long)l->evaluations);
+}
+
+/* Of the cases and of small cases: how many replies have a lowered unit, and in how many evaluations a unit was lowered. */
+static void print_lowering(void)
+{
+    struct plain_lowering of_groups = {0, 0, 0, 0}, of_small = {0, 0, 0, 0};
+    uint64_t state = SMALL_CASES_SEED;
+    static struct case_file c;
+    for (int i = 0; i < GROUPS; i++)
+        for (uint32_t k = 0; k < CASES_IN_GROUP; k++)
+            plain_lowering(groups[i].cases[k].bytes, groups[i].cases[k].length, &of_groups);
+    for (int i = 0; i < SMALL_CASES; i++) {
+        make_small_case(&state, &c);
+        plain_lowering(c.bytes, c.length, &of_small);
+    }
+    print_shares("with a unit lowered: cases", &of_groups);
+    print_shares("; small cases", &of_small);
+    printf("\n\n");
+}
+
 static int repetitions_of(int argc, char **argv)
 {
     int n = argc < 2 ? REPETITIONS_DEFAULT : atoi(argv[1]);
@@ -241,6 +266,7 @@ int main(int argc, char **argv)
     int repetitions = repetitions_of(argc, argv);
     make_groups();
     compare_groups();
+    print_lowering();
     for (int repetition = 0; repetition < repetitions; repetition++)
         for (int i = 0; i < GROUPS; i++)
             repeat_group(repetition, i);

@@ -7,7 +7,7 @@
 #include <stddef.h>
 #include <stdint.h>
 
-enum { CASES_IN_GROUP = 256 };
+enum { CASES_IN_GROUP = 256, SMALL_CASES = 20000, SMALL_CASES_SEED = 20240602 };
 
 struct case_file {
     size_t length;

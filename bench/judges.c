@@ -9,7 +9,7 @@
 #include <stdlib.h>
 #include <string.h>
 
-enum { SMALL_CASES = 20000, LISTS = 4, NOT_PERMITTED = 65535, ANSWERS_ROOM = 5, FILLED = 0xA5 };
+enum { LISTS = 4, NOT_PERMITTED = 65535, ANSWERS_ROOM = 5, FILLED = 0xA5 };
 
 typedef uint32_t judge_call(const uint8_t *, size_t, const uint32_t *, size_t, int64_t *, size_t);
 

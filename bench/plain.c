@@ -1,6 +1,7 @@
 /* A plain C program of the specification's dispatch, from file bytes to reply bytes: what the controller is measured against.
  * It checks and decodes each unit once, finds its permitted outputs once as regions, and makes one division a unit and
- * evaluation. Judging outputs that someone gives has the same parts. It is tested, not proved. */
+ * evaluation, from which it also has the least tied output. Judging outputs that someone gives has the same parts. It is tested,
+ * not proved. */
 #include "plain.h"
 
 enum { UNITS_MAX = 32, ZONES_MAX = 4, REGIONS_MAX = 6 };
@@ -54,15 +55,18 @@ struct problem {
     struct offer offers[UNITS_MAX];
 };
 
+/* Lowered are the units that give less than their choices. */
 struct allocation {
     uint16_t outputs[UNITS_MAX];
     int64_t cost, net;
+    uint32_t lowered;
 };
 
+/* Of the evaluations, those count as lowered in which a unit was. */
 struct solution {
     struct allocation best;
     int64_t floor;
-    uint32_t evaluations;
+    uint32_t evaluations, lowered;
 };
 
 /* ---- fields */
@@ -293,23 +297,45 @@ static int64_t clamp(int64_t p, int64_t low, int64_t high)
 }
 
 /* The permitted output of least priced cost, the greatest on a tie. The part of the priced cost that is the same for every running
- * output, 100,000 * c0, is left out; standing, the first region if it is one, costs nothing and has that part less. */
-static int64_t choose(const struct offer *o, int64_t m)
+ * output, 100,000 * c0, is left out; standing, the first region if it is one, costs nothing and has that part less. The vertex is
+ * handed out, and whether outputs may tie: the one before the vertex with it, all of them, or those of two regions. */
+static int64_t choose(const struct offer *o, int64_t m, int64_t *vertex_at, int *tied)
 {
     int64_t square = PRICED_OF_COST * o->c2 + m * o->b;
     int64_t linear = PRICED_OF_COST * o->c1 - m * o->step_net;
     int64_t v = vertex(square, linear);
     int64_t best = clamp(v, o->regions[0].low, o->regions[0].high);
     int64_t least = best == 0 ? -PRICED_OF_COST * o->c0 : (square * best + linear) * best;
+    int equal = square - linear == 2 * square * v;
     for (int32_t k = 1; k < o->region_count; k++) {
         int64_t p = clamp(v, o->regions[k].low, o->regions[k].high);
         int64_t priced = (square * p + linear) * p;
+        equal |= priced == least;
         if (priced <= least) {
             best = p;
             least = priced;
         }
     }
+    *vertex_at = v;
+    *tied |= equal;
     return best;
+}
+
+/* The least permitted output whose priced cost is that of the choice: in the first region that has it, and there the first. */
+static int64_t least_tied(const struct offer *o, int64_t m, int64_t v, int64_t choice)
+{
+    int64_t square = PRICED_OF_COST * o->c2 + m * o->b;
+    int64_t linear = PRICED_OF_COST * o->c1 - m * o->step_net;
+    int64_t least = (square * choice + linear) * choice;
+    int64_t first = square - linear != 2 * square * v ? v : square == 0 ? 0 : v - 1;
+    int stands = o->regions[0].high == 0;
+    if (stands && (choice == 0 || least == -PRICED_OF_COST * o->c0))
+        return 0;
+    for (int32_t k = stands;; k++) {
+        int64_t p = clamp(v, o->regions[k].low, o->regions[k].high);
+        if ((square * p + linear) * p == least)
+            return clamp(first, o->regions[k].low, o->regions[k].high);
+    }
 }
 
 /* ---- steps 1 to 4 */
@@ -325,6 +351,7 @@ static void add_output(struct allocation *a, const struct offer *o, uint32_t i, 
 static int greatest_outputs(const struct problem *q, struct allocation *a)
 {
     a->cost = a->net = 0;
+    a->lowered = 0;
     for (uint32_t i = 0; i < q->count; i++) {
         const struct offer *o = &q->offers[i];
         if (o->region_count == 0)
@@ -339,13 +366,36 @@ static int64_t divided_up(int64_t n, int64_t by)
     return n > 0 ? (n - 1) / by + 1 : n / by;
 }
 
-/* The choices of one multiplier, and its floor. The dual value is the choices' priced cost and the demand's price. */
+/* Lowers choices that cover, unit by unit: each to its least tied output, if the net still reaches the target then. */
+static void lower(const struct problem *q, int64_t m, const int64_t *vertices, struct allocation *a)
+{
+    for (uint32_t i = 0; i < q->count; i++) {
+        const struct offer *o = &q->offers[i];
+        int64_t choice = a->outputs[i], least = least_tied(o, m, vertices[i], choice);
+        int64_t net = a->net - net_of(o, choice) + net_of(o, least);
+        if (least == choice || net < q->target)
+            continue;
+        a->net = net;
+        a->cost += cost_of(o, least) - cost_of(o, choice);
+        a->outputs[i] = (uint16_t)least;
+        a->lowered++;
+    }
+}
+
+/* The choices of one multiplier, lowered where they cover, and its floor. The dual value is the choices' priced cost and the
+ * demand's price. */
 static int64_t evaluate(const struct problem *q, int64_t m, struct allocation *a)
 {
+    int64_t vertices[UNITS_MAX];
+    int tied = 0;
     a->cost = a->net = 0;
+    a->lowered = 0;
     for (uint32_t i = 0; i < q->count; i++)
-        add_output(a, &q->offers[i], i, choose(&q->offers[i], m));
-    return divided_up(PRICED_OF_COST * a->cost - m * (a->net - q->target), PRICED_OF_COST);
+        add_output(a, &q->offers[i], i, choose(&q->offers[i], m, &vertices[i], &tied));
+    int64_t floor = divided_up(PRICED_OF_COST * a->cost - m * (a->net - q->target), PRICED_OF_COST);
+    if (tied && a->net > q->target)
+        lower(q, m, vertices, a);
+    return floor;
 }
 
 /* Evaluates a multiplier, counts it, and keeps the greatest floor. */
@@ -355,6 +405,7 @@ static void try_multiplier(const struct problem *q, int64_t m, struct solution *
     if (s->evaluations == 0 || floor > s->floor)
         s->floor = floor;
     s->evaluations++;
+    s->lowered += choices->lowered != 0;
 }
 
 /* Step 4. */
@@ -380,7 +431,7 @@ static void halve(const struct problem *q, struct solution *s)
 static void search(const struct problem *q, struct solution *s)
 {
     struct allocation choices;
-    s->evaluations = 0;
+    s->evaluations = s->lowered = 0;
     try_multiplier(q, 0, s, &choices);
     if (choices.net >= q->target) {
         s->best = choices;
@@ -408,19 +459,39 @@ static uint32_t write_reply(uint8_t *reply, const struct problem *q, const struc
     return OUTPUTS_AT + 2 * q->count;
 }
 
+static enum refusal solve(const uint8_t *file, size_t length, struct problem *q, struct solution *s)
+{
+    enum refusal r = read_case(file, length, q);
+    if (r != ACCEPTED)
+        return r;
+    if (!greatest_outputs(q, &s->best))
+        return NO_ALLOCATION;
+    search(q, s);
+    return ACCEPTED;
+}
+
 uint32_t plain_dispatch(const uint8_t *file, size_t file_length, uint8_t *reply, size_t reply_length)
 {
     struct problem q;
     struct solution s;
     if (reply_length < REPLY_BYTES_MIN)
         return BUFFER_TOO_SHORT;
-    enum refusal r = read_case(file, file_length, &q);
+    enum refusal r = solve(file, file_length, &q, &s);
+    return r == ACCEPTED ? write_reply(reply, &q, &s) : r;
+}
+
+uint32_t plain_lowering(const uint8_t *file, size_t file_length, struct plain_lowering *l)
+{
+    struct problem q;
+    struct solution s;
+    enum refusal r = solve(file, file_length, &q, &s);
     if (r != ACCEPTED)
         return r;
-    if (!greatest_outputs(&q, &s.best))
-        return NO_ALLOCATION;
-    search(&q, &s);
-    return write_reply(reply, &q, &s);
+    l->dispatches++;
+    l->dispatches_lowered += s.best.lowered != 0;
+    l->evaluations += s.evaluations;
+    l->evaluations_lowered += s.lowered;
+    return ACCEPTED;
 }
 
 /* ---- outputs that someone gives */
@@ -437,6 +508,7 @@ static int is_permitted(const struct offer *o, uint32_t p)
 static int take_outputs(const struct problem *q, const uint32_t *outputs, struct allocation *a)
 {
     a->cost = a->net = 0;
+    a->lowered = 0;
     for (uint32_t i = 0; i < q->count; i++) {
         if (!is_permitted(&q->offers[i], outputs[i]))
             return 0;

@@ -8,6 +8,15 @@
 /* As shahfureel_dispatch in include/shahfureel.h: the reply's length, or the number of a refusal, which writes nothing. */
 uint32_t plain_dispatch(const uint8_t *file, size_t file_length, uint8_t *reply, size_t reply_length);
 
+/* How many dispatches were answered, and how many of their replies have a unit that was lowered to an output tied with its choice;
+ * how many evaluations they made, and in how many of them a unit was lowered. */
+struct plain_lowering {
+    uint64_t dispatches, dispatches_lowered, evaluations, evaluations_lowered;
+};
+
+/* Adds the dispatch of a case to these numbers, and returns 0; or returns the number of its refusal. */
+uint32_t plain_lowering(const uint8_t *file, size_t file_length, struct plain_lowering *l);
+
 /* As shahfureel_view in include/shahfureel.h. */
 uint32_t plain_view(const uint8_t *reply, size_t reply_length, const uint8_t *request, size_t request_length, uint8_t *answer,
                     size_t answer_room, int64_t *answers, size_t answers_room);

@@ -264,6 +264,57 @@ static void standing_costs_nothing(size_t a)
     expect(shahfureel_reply_output(reply, 0) == 2 && shahfureel_reply_cost(reply) == 74000, "dispatch", "running costs c0 too");
 }
 
+/* U so many times with these costs, its outputs tied at one multiplier: some units are lowered to their least tied output */
+static const struct {
+    uint32_t c0, c1, c2, units, demand, outputs[3], evaluations;
+    uint64_t cost, gap, surplus;
+    const char *what;
+} lowered[] = {
+    {0, 10000, 1000, 2, 5, {2, 3}, 18, 63000, 0, 0, "one of two units alike is lowered"},
+    {0, 10000, 1000, 3, 8, {2, 3, 3}, 18, 102000, 0, 0, "one of three units alike is lowered"},
+    {0, 10000, 1000, 3, 7, {2, 2, 3}, 18, 87000, 0, 0, "two of three units alike are lowered"},
+    {0, 10000, 1000, 2, 11, {4, 7}, 18, 175000, 0, 0, "a unit is lowered over a zone"},
+    {0, 10000, 1000, 2, 2, {0, 2}, 16, 24000, 0, 0, "a unit is lowered to standing"},
+    {0, 10000, 1000, 2, 3, {2, 2}, 18, 48000, 12000, 100000000, "none is lowered below the demand"},
+    {6000, 10000, 1000, 2, 5, {3, 3}, 18, 90000, 15000, 100000000, "none goes to a tied output between"},
+    {0, 11000, 1000, 2, 5, {2, 3}, 14, 68000, 0, 0, "an equal net by lowering ends the search"},
+    {0, 0, 0, 1, 0, {0}, 1, 0, 0, 0, "a unit that costs nothing stands at demand 0"},
+    {0, 0, 0, 2, 15, {10, 10}, 1, 0, 0, 500000000, "units that cost nothing stay where they cover"},
+    {655360000, 0, 0, 2, 10, {0, 10}, 2, 655360000, 0, 0, "a unit is lowered at 65,536"},
+};
+
+enum { LOWERED = sizeof lowered / sizeof lowered[0] };
+
+/* the case file of a row of that table, and its length */
+static uint32_t lowered_file(size_t k, uint8_t *file, size_t room)
+{
+    uint32_t rows[3 * ROW];
+    for (uint32_t i = 0; i < lowered[k].units; i++) {
+        memcpy(rows + ROW * i, U_ROW, sizeof U_ROW);
+        rows[ROW * i + SHAHFUREEL_ROW_C0] = lowered[k].c0;
+        rows[ROW * i + SHAHFUREEL_ROW_C1] = lowered[k].c1;
+        rows[ROW * i + SHAHFUREEL_ROW_C2] = lowered[k].c2;
+    }
+    return shahfureel_pack(lowered[k].demand, rows, ROW * lowered[k].units, file, room);
+}
+
+static void dispatching_lowered(size_t a)
+{
+    const uint8_t *reply = byte_space + GUARD + a;
+    uint8_t file[BYTES];
+    for (size_t k = 0; k < LOWERED; k++) {
+        uint32_t length = lowered_file(k, file, sizeof file), replied = 28 + 2 * lowered[k].units;
+        expect(dispatch(file, length, a, BYTES) == replied, "dispatch", lowered[k].what);
+        for (uint32_t i = 0; i < lowered[k].units; i++)
+            expect(shahfureel_reply_output(reply, i) == lowered[k].outputs[i], "dispatch", lowered[k].what);
+        expect(shahfureel_reply_evaluations(reply) == lowered[k].evaluations, "dispatch", lowered[k].what);
+        expect(shahfureel_reply_cost(reply) == lowered[k].cost && shahfureel_reply_gap(reply) == lowered[k].gap, "dispatch",
+               lowered[k].what);
+        expect(shahfureel_reply_surplus(reply) == lowered[k].surplus, "dispatch", lowered[k].what);
+        expect(bytes_kept_but(reply, replied), "dispatch", "it writes 28 + 2n bytes and no other");
+    }
+}
+
 /* U in edition 2: either sign of b1, none, the most beside b, and lengths that one edition has and the other has not */
 static void dispatching_edition_2(size_t a)
 {
@@ -290,6 +341,7 @@ static void dispatching_edition_2(size_t a)
 static void dispatching(size_t a)
 {
     standing_costs_nothing(a);
+    dispatching_lowered(a);
     dispatching_edition_2(a);
     dispatch_replies(u5(), U5_BYTES, a, SHAHFUREEL_REPLY_BYTES, U5_REPLY, "U5");
     dispatch_replies(u5(), U5_BYTES, a, BYTES, U5_REPLY, "U5");
@@ -508,7 +560,7 @@ static void judging_edition_2(size_t a)
     }
 }
 
-/* U twice at demand 5: cheaper by hand than by dispatch, which gives 3 and 3 */
+/* U twice at demand 5: dispatch gives 2 and 3, and before it lowers the first 3 and 3 */
 static void judging_two_units(size_t a)
 {
     uint32_t rows[2 * ROW];
@@ -518,6 +570,7 @@ static void judging_two_units(size_t a)
     uint32_t length = shahfureel_pack(5, rows, 2 * ROW, file, sizeof file);
     expect(length == 76, "judge", "U twice packs to 76 bytes");
     judge_accepts(file, length, (const uint32_t[]){2, 3}, 2, a, 4, 63000, 0, 0, "2 and 3");
+    judge_accepts(file, length, (const uint32_t[]){3, 3}, 2, a, 4, 78000, 100000000, 15000, "3 and 3");
     judge_accepts(file, length, (const uint32_t[]){7, 0}, 2, a, 5, 119000, 200000000, 56000, "7 and 0");
     judging_replies(file, length, a);
     expect(judge(file, length, (const uint32_t[]){2, 2}, 2, a, 4) == 0 && answers[0] == 0, "judge", "2 and 2 do not cover");
@@ -528,6 +581,16 @@ static void judging_two_units(size_t a)
     expect(shahfureel_pack(5, rows, 2 * ROW, file, sizeof file) == length, "judge", "the second must run");
     judge_accepts(file, length, (const uint32_t[]){0, 7}, 2, a, 4, 119000, 200000000, 56000, "the second runs");
     expect(judge(file, length, (const uint32_t[]){7, 0}, 2, a, 4) == 0 && answers[0] == 0, "judge", "an output is its own unit's");
+}
+
+/* the outputs of the replies with lowered units; and cheaper ones than dispatch's 3 and 3 */
+static void judging_lowered(size_t a)
+{
+    uint8_t file[BYTES];
+    for (size_t k = 0; k < LOWERED; k++)
+        judging_replies(file, lowered_file(k, file, sizeof file), a);
+    uint32_t length = lowered_file(6, file, sizeof file);
+    judge_accepts(file, length, (const uint32_t[]){2, 3}, 2, a, 4, 75000, 0, 0, "cheaper than dispatch's own");
 }
 
 static void judging(size_t a)
@@ -545,6 +608,7 @@ static void judging(size_t a)
     judging_demands(a);
     judging_edition_2(a);
     judging_two_units(a);
+    judging_lowered(a);
     judge_gives(u5(), U5_BYTES, seven, 1, a, 3, SHAHFUREEL_BUFFER_TOO_SHORT, "three answers are 1");
     judge_gives(u5(), 0, seven, 0, a, 3, SHAHFUREEL_BUFFER_TOO_SHORT, "1 comes before 2 and 19");
     judge_gives(u5(), U5_BYTES, seven, 0, a, 0, SHAHFUREEL_BUFFER_TOO_SHORT, "no answer is 1");

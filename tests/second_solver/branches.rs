@@ -1,8 +1,9 @@
 //! What the counts of numbers do not tell apart: the branches of the rules on editions and on 18, and how often calls came to each of
-//! them and of those of `judged`.
+//! them and of those of `lowered` and `judged`.
 
 use crate::calls::Call;
 use crate::judged;
+use crate::lowered;
 use crate::solver::{self, Refused, Unit};
 
 /// A call on a file, and the number of its refusal, or none.
@@ -128,19 +129,26 @@ impl Seen<'_> {
     }
 }
 
-/// How often calls came to each branch: those above, then those of `judged`.
-pub struct Reached([u64; BRANCHES.len() + judged::BRANCHES.len()]);
+/// Where the counts of `judged` start, behind those of `lowered`.
+const JUDGED: usize = BRANCHES.len() + lowered::BRANCHES.len();
+
+/// How often calls came to each branch: those above, then those of `lowered` and of `judged`.
+pub struct Reached([u64; JUDGED + judged::BRANCHES.len()]);
 
 impl Default for Reached {
     fn default() -> Reached {
-        Reached([0; BRANCHES.len() + judged::BRANCHES.len()])
+        Reached([0; JUDGED + judged::BRANCHES.len()])
     }
 }
 
 impl Reached {
     pub fn count(&mut self, call: &Call, refused: Option<Refused>) {
         match call {
-            Call::Dispatch { file, .. } | Call::Price { file, .. } => self.count_file(file, false, refused),
+            Call::Dispatch { file, .. } => {
+                self.count_file(file, false, refused);
+                self.count_lowered(file, refused);
+            }
+            Call::Price { file, .. } => self.count_file(file, false, refused),
             Call::Unpack { file, .. } => self.count_file(file, true, refused),
             Call::Judge { file, outputs } => self.count_judged(file, outputs, refused),
             Call::Pack { .. } | Call::View { .. } => {}
@@ -154,17 +162,27 @@ impl Reached {
         }
     }
 
+    fn count_lowered(&mut self, file: &[u8], refused: Option<Refused>) {
+        if refused.is_none() {
+            let seen = lowered::Seen::new(file);
+            for (count, (_, reached)) in self.0[BRANCHES.len()..].iter_mut().zip(lowered::BRANCHES) {
+                *count += u64::from(reached(&seen));
+            }
+        }
+    }
+
     fn count_judged(&mut self, file: &[u8], outputs: &[u32], refused: Option<Refused>) {
         let seen = judged::Seen::new(file, outputs, refused);
-        for (count, (_, reached)) in self.0[BRANCHES.len()..].iter_mut().zip(judged::BRANCHES) {
+        for (count, (_, reached)) in self.0[JUDGED..].iter_mut().zip(judged::BRANCHES) {
             *count += u64::from(reached(&seen));
         }
     }
 
     /// The name of each branch, and its count.
     fn counts(&self) -> impl Iterator<Item = (&'static str, u64)> + '_ {
-        let names = BRANCHES.iter().map(|branch| branch.0).chain(judged::BRANCHES.iter().map(|branch| branch.0));
-        names.zip(self.0.iter().copied())
+        let own = BRANCHES.iter().map(|branch| branch.0);
+        let others = lowered::BRANCHES.iter().map(|branch| branch.0).chain(judged::BRANCHES.iter().map(|branch| branch.0));
+        own.chain(others).zip(self.0.iter().copied())
     }
 
     pub fn lines(&self) -> Vec<String> {

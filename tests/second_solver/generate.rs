@@ -35,6 +35,7 @@ pub fn accepted_kinds() -> Vec<Kind> {
         kind("full-size", 6, |random| full_size(random, 1)),
         kind("equal-units", 4, |random| equal_units(random, 1)),
         kind("tied-outputs", 5, |random| tied_outputs(random, 1)),
+        kind("lowered-outputs", 16, |random| lowered_outputs(random, 1)),
         kind("free-outputs", 3, |random| free_outputs(random, 1)),
         kind("low-prices", 5, |random| low_prices(random, 1)),
         kind("standing-or-running", 6, |random| standing_or_running(random, 1)),
@@ -54,6 +55,7 @@ pub fn accepted_kinds() -> Vec<Kind> {
         kind("edition-2-full-size", 4, |random| full_size(random, 2)),
         kind("edition-2-equal-units", 2, |random| equal_units(random, 2)),
         kind("edition-2-tied-outputs", 5, |random| tied_outputs(random, 2)),
+        kind("edition-2-lowered-outputs", 10, |random| lowered_outputs(random, 2)),
         kind("edition-2-free-outputs", 2, |random| free_outputs(random, 2)),
         kind("edition-2-low-prices", 3, |random| low_prices(random, 2)),
         kind("edition-2-standing-or-running", 4, |random| standing_or_running(random, 2)),
@@ -88,10 +90,8 @@ fn damaged_kinds() -> Vec<Kind> {
         kind("losses-at-limits", 1, damage::losses_at_limits),
         kind("unpacked-editions", 1, damage::unpacked_editions),
         kind("damaged-rows", 1, damage::damaged_rows),
-        kind("short-buffers", 1, |random| short_buffers(random, 1)),
-        kind("edition-2-short-buffers", 1, |random| short_buffers(random, 2)),
-        kind("multipliers", 1, |random| multipliers(random, 1)),
-        kind("edition-2-multipliers", 1, |random| multipliers(random, 2)),
+        kind("short-buffers", 1, |random| in_both_editions(short_buffers, random)),
+        kind("multipliers", 1, |random| in_both_editions(multipliers, random)),
     ]
 }
 
@@ -288,7 +288,8 @@ fn table(random: &mut Random) -> Vec<Call> {
 }
 
 fn further_vectors(random: &mut Random) -> Vec<Call> {
-    vectors::further().iter().flat_map(|vector| calls_of_case(&vector.case, random)).collect()
+    let vectors = [vectors::further(), vectors::lowered()];
+    vectors.iter().flatten().flat_map(|vector| calls_of_case(&vector.case, random)).collect()
 }
 
 /// The stated cases of edition 2, and their stated pricings.
@@ -358,6 +359,46 @@ fn tied_outputs(random: &mut Random, edition: i128) -> Vec<Call> {
         calls.push(Call::Price { file: file.clone(), multiplier: multiplier as u32 });
     }
     calls
+}
+
+/// Units of which outputs tie at one multiplier, some of them equal, and a demand between their least tied outputs and their choices,
+/// so that the search comes to it.
+fn lowered_outputs(random: &mut Random, edition: i128) -> Vec<Call> {
+    let any = random.between(1, 60);
+    let multiplier = random.pick(&[0, 16, 64, any, any, any, any, solver::GREATEST_MULTIPLIER]);
+    let sorts = [0; 2].map(|_| tying_unit(random, edition, multiplier));
+    let units = (0..random.pick(&[1, 2, 2, 3, 3, 4, 4, 32])).map(|_| random.pick(&sorts)).collect();
+    let mut case = Case { edition, demand: 0, units };
+    if let Ok(problem) = solver::problem(&case) {
+        let evaluation = problem.evaluate(multiplier);
+        let [least, most] = [evaluation.least_tied, evaluation.choices].map(|outputs| solver::total_net(&outputs));
+        case.demand = random.between(least, most) / solver::NET_OF_A_STEP;
+    }
+    calls_of_case(&case, random)
+}
+
+/// A unit without a b of which outputs tie at a multiplier: two neighbours or the edges of a zone, adjacent ones among them; with c2 0
+/// all running outputs; for some units standing too, at 65,536 with the greatest output alone.
+fn tying_unit(random: &mut Random, edition: i128, multiplier: i128) -> Unit {
+    let (step, zones) = random.pick(&[(1, 0), (3, 0), (1, 1), (3, 1), (3, 1), (1, 2), (3, 2)]);
+    let mut unit = unit(random, edition, 1, step, zones);
+    unit.greatest += random.pick(&[0, 0, 3]);
+    unit.b1 = if edition == 2 { GREATEST_B1 * random.between(-1, 1) } else { 0 };
+    let mut pairs = vec![(unit.least, unit.least + 1), (unit.greatest - 1, unit.greatest)];
+    pairs.extend(&unit.zones);
+    let (lower, upper) = random.pick(&pairs);
+    let step_price = multiplier * (solver::NET_OF_A_STEP - unit.b1) / solver::COST_SCALE;
+    let c2 = random.pick(&[0, 1, 200, 1_000]).min(step_price / (lower + upper));
+    let c1 = (step_price - c2 * (lower + upper)).min(10_000_000);
+    let chosen = if multiplier == solver::GREATEST_MULTIPLIER { unit.greatest } else { upper };
+    let running = Unit { c0: 0, c1, c2, b: 0, ..unit };
+    let c0_of_tie = step_price * chosen - solver::cost(&running, chosen);
+    let c0 = random.pick(&[0, 0, c0_of_tie]).min(1_000_000_000);
+    let mut unit = Unit { c0, ..running };
+    if random.chance(4) {
+        set_any_window(&mut unit, random);
+    }
+    unit
 }
 
 /// A b1 of whole hundred thousands, from so many of them to a hundred.
@@ -580,6 +621,10 @@ fn both_editions(random: &mut Random) -> Vec<Call> {
 }
 
 // ---- buffers and multipliers
+
+fn in_both_editions(make: fn(&mut Random, i128) -> Vec<Call>, random: &mut Random) -> Vec<Call> {
+    solver::EDITIONS.into_iter().flat_map(|edition| make(random, edition)).collect()
+}
 
 /// Buffers of no room, too short by one, and just long enough; also with a file that is refused for itself.
 fn short_buffers(random: &mut Random, edition: i128) -> Vec<Call> {

@@ -2,18 +2,26 @@
 
 use crate::solver::{self, Case, Judged, Refused, Reply, Unit};
 
-/// A call that judges, and the number of its refusal, or none; of a file that dispatch answers, also the case and the reply.
+/// A call that judges, and the number of its refusal, or none; of a file that dispatch answers, also the case and the reply, and the
+/// reply's outputs before lowering.
 pub struct Seen<'a> {
     file: &'a [u8],
     outputs: &'a [u32],
     number: Option<u32>,
     solved: Option<(Case, Reply)>,
+    unlowered: Option<Vec<i128>>,
 }
 
 type Branch = (&'static str, fn(&Seen) -> bool);
 
-pub const BRANCHES: [Branch; 48] = [
+pub const BRANCHES: [Branch; 50] = [
     ("accepted, dispatch's own outputs", |seen| seen.accepted(|_, reply| seen.given() == reply.outputs)),
+    ("accepted, dispatch's own outputs, some of them lowered", |seen| {
+        seen.accepted(|_, reply| seen.given() == reply.outputs && seen.unlowered.as_ref() != Some(&reply.outputs))
+    }),
+    ("accepted, dearer than dispatch's own, of which some are lowered from these", |seen| {
+        seen.accepted(|case, reply| seen.unlowered == Some(seen.given()) && seen.cost(case) > reply.cost)
+    }),
     ("accepted, cheaper than dispatch's own", |seen| seen.accepted(|case, reply| seen.cost(case) < reply.cost)),
     ("accepted, dearer than dispatch's own", |seen| seen.accepted(|case, reply| seen.cost(case) > reply.cost)),
     ("accepted, distance 0", |seen| seen.accepted(|case, reply| seen.cost(case) == reply.cost - reply.gap)),
@@ -79,8 +87,9 @@ fn without_ramp(unit: &Unit, output: i128) -> bool {
 impl Seen<'_> {
     pub fn new<'a>(file: &'a [u8], outputs: &'a [u32], refused: Option<Refused>) -> Seen<'a> {
         let case = solver::decode(file).ok();
+        let unlowered = case.as_ref().and_then(solver::unlowered);
         let solved = case.and_then(|case| solver::solve(&case).ok().map(|reply| (case, reply)));
-        Seen { file, outputs, number: refused.map(|refused| refused.0), solved }
+        Seen { file, outputs, number: refused.map(|refused| refused.0), solved, unlowered }
     }
 
     fn given(&self) -> Vec<i128> {

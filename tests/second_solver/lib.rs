@@ -5,6 +5,7 @@ pub mod calls;
 pub mod damage;
 pub mod generate;
 pub mod judged;
+pub mod lowered;
 pub mod outputs;
 pub mod promise;
 pub mod random;

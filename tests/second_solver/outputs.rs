@@ -44,8 +44,8 @@ pub fn judged_vectors(_random: &mut Random) -> Vec<Call> {
     vectors::judgements().into_iter().map(|vector| judge(&vector.case, vector.outputs)).collect()
 }
 
-/// Of a case dispatch's own outputs, some with one of them changed, the greatest and any permitted ones; and demands that are just
-/// covered, and just not.
+/// Of a case dispatch's own outputs, the same before they are lowered, some with one of them changed, the greatest and any permitted
+/// ones; and demands that are just covered, and just not.
 pub fn judged_outputs(random: &mut Random) -> Vec<Call> {
     let case = any_case(random);
     let mut lists = vec![greatest(&case), numbers_of(&any_permitted(&case, random))];
@@ -55,6 +55,7 @@ pub fn judged_outputs(random: &mut Random) -> Vec<Call> {
             lists.push(with_one_changed(&case, &own, random));
         }
         lists.push(own);
+        lists.extend(solver::unlowered(&case).filter(|outputs| *outputs != reply.outputs).map(|outputs| numbers(&outputs)));
     }
     let mut calls: Vec<Call> = lists.into_iter().map(|outputs| judge(&case, outputs)).collect();
     calls.extend(about_the_demand(&case, random));

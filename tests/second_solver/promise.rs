@@ -49,7 +49,7 @@ fn broken_sentence(offers: &[Vec<Offer>], demand_net: i128, cheapest: i128, repl
     let trials = all_trials(offers, demand_net);
     let greatest_floor = greatest_floor(&trials);
     let (best, evaluations) = bisection(&trials);
-    let best = best.map_or_else(|| greatest_outputs(offers), |multiplier| choices(offers, multiplier));
+    let best = best.map_or_else(|| greatest_outputs(offers), |multiplier| lowered(&tied(offers, multiplier), demand_net));
     let sentences = [
         (allocation == best, "the outputs are those of the bisection"),
         (solver::total_net(&allocation) >= demand_net, "the outputs cover the demand"),
@@ -57,7 +57,9 @@ fn broken_sentence(offers: &[Vec<Offer>], demand_net: i128, cheapest: i128, repl
         (solver::total_net(&allocation) - demand_net == reply.surplus, "the surplus is exact"),
         (cheapest >= reply.cost - reply.gap, "nobody spends less than cost - gap"),
         (greatest_floor == reply.cost - reply.gap, "cost - gap is the greatest floor"),
-        (trials.iter().all(|trial| trial.surplus < 0 || trial.cost >= reply.cost), "no covering choices cost less"),
+        (trials.iter().all(|trial| trial.surplus < 0 || trial.cost >= reply.cost), "no covering choices, lowered, cost less"),
+        (trials.iter().all(|trial| trial.surplus < 0 || trial.unlowered_cost >= reply.cost), "no covering choices cost less"),
+        (trials.iter().all(|trial| (trial.surplus < 0) == (trial.unlowered_surplus < 0)), "lowering keeps what covers"),
         (evaluations == reply.evaluations, "the evaluations are exact"),
         ((1..=18).contains(&reply.evaluations), "the evaluations are 1 to 18"),
     ];
@@ -76,16 +78,45 @@ fn greatest_outputs(offers: &[Vec<Offer>]) -> Allocation {
     offers.iter().map(|unit| *unit.last().expect("a permitted output")).collect()
 }
 
-fn choices(offers: &[Vec<Offer>], multiplier: i128) -> Allocation {
-    let least =
-        |unit: &Vec<Offer>| *unit.iter().rev().min_by_key(|offer| solver::priced_cost(offer, multiplier)).expect("an offer");
-    offers.iter().map(least).collect()
+/// A unit's least tied output and its choice.
+struct Tied {
+    least: Offer,
+    choice: Offer,
 }
 
-/// What one multiplier gives.
+fn tied(offers: &[Vec<Offer>], multiplier: i128) -> Vec<Tied> {
+    let price = |offer: &&Offer| solver::priced_cost(offer, multiplier);
+    let of_unit = |unit: &Vec<Offer>| Tied {
+        least: *unit.iter().min_by_key(price).expect("an offer"),
+        choice: *unit.iter().rev().min_by_key(price).expect("an offer"),
+    };
+    offers.iter().map(of_unit).collect()
+}
+
+fn choices(tied: &[Tied]) -> Allocation {
+    tied.iter().map(|unit| unit.choice).collect()
+}
+
+/// The choices, each lowered as far as the surplus that is left lets it, in file order; none where there is no surplus.
+fn lowered(tied: &[Tied], demand_net: i128) -> Allocation {
+    let mut left = solver::total_net(&choices(tied)) - demand_net;
+    let mut lower = |unit: &Tied| {
+        let given_up = unit.choice.net - unit.least.net;
+        if given_up > left {
+            return unit.choice;
+        }
+        left -= given_up;
+        unit.least
+    };
+    tied.iter().map(&mut lower).collect()
+}
+
+/// What one multiplier gives: cost and surplus of its lowered choices, and of the choices themselves.
 struct Trial {
     cost: i128,
     surplus: i128,
+    unlowered_cost: i128,
+    unlowered_surplus: i128,
     floor: i128,
 }
 
@@ -95,11 +126,14 @@ fn all_trials(offers: &[Vec<Offer>], demand_net: i128) -> Vec<Trial> {
 }
 
 fn trial(offers: &[Vec<Offer>], demand_net: i128, multiplier: i128) -> Trial {
-    let choices = choices(offers, multiplier);
+    let tied = tied(offers, multiplier);
+    let (choices, lowered) = (choices(&tied), lowered(&tied, demand_net));
     let priced: i128 = choices.iter().map(|offer| solver::priced_cost(offer, multiplier)).sum();
     Trial {
-        cost: solver::total_cost(&choices),
-        surplus: solver::total_net(&choices) - demand_net,
+        cost: solver::total_cost(&lowered),
+        surplus: solver::total_net(&lowered) - demand_net,
+        unlowered_cost: solver::total_cost(&choices),
+        unlowered_surplus: solver::total_net(&choices) - demand_net,
         floor: rounded_up(priced + multiplier * demand_net),
     }
 }
@@ -118,7 +152,7 @@ fn rounded_up(dual: i128) -> i128 {
     }
 }
 
-/// The multiplier whose choices the bisection gives, or none for the greatest outputs; and how many it evaluates.
+/// The multiplier whose lowered choices the bisection gives, or none for the greatest outputs; and how many it evaluates.
 fn bisection(trials: &[Trial]) -> (Option<i128>, i128) {
     let top = trials.len() - 1;
     if trials[0].surplus >= 0 {

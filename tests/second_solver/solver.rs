@@ -344,8 +344,13 @@ pub fn problem(case: &Case) -> Result<Problem, Refused> {
     }
 }
 
+/// What one multiplier gives: the choices, of each unit the least output that ties with its choice, what the search takes, and the
+/// dual value.
 pub struct Evaluation {
     pub choices: Allocation,
+    pub least_tied: Allocation,
+    /// The choices, lowered where they cover.
+    pub lowered: Allocation,
     pub dual: i128,
 }
 
@@ -353,25 +358,44 @@ pub fn priced_cost(offer: &Offer, multiplier: i128) -> i128 {
     COST_SCALE * offer.cost - multiplier * offer.net
 }
 
-/// The offer of least priced cost, the greatest on a tie.
-fn choice(offers: &[Offer], multiplier: i128) -> Offer {
-    let mut chosen = offers[0];
-    let mut least = priced_cost(&chosen, multiplier);
+/// All offers of least priced cost, rising: the last is the choice, the first the least tied output.
+pub fn tied(offers: &[Offer], multiplier: i128) -> Vec<Offer> {
+    let mut tied = Vec::new();
+    let mut least = priced_cost(&offers[0], multiplier);
     for offer in offers {
         let priced = priced_cost(offer, multiplier);
-        if priced <= least {
-            chosen = *offer;
+        if priced < least {
+            tied.clear();
             least = priced;
         }
+        if priced == least {
+            tied.push(*offer);
+        }
     }
-    chosen
+    tied
 }
 
 impl Problem {
     pub fn evaluate(&self, multiplier: i128) -> Evaluation {
-        let choices: Allocation = self.offers.iter().map(|unit| choice(unit, multiplier)).collect();
+        let tied: Vec<Vec<Offer>> = self.offers.iter().map(|unit| tied(unit, multiplier)).collect();
+        let choices: Allocation = tied.iter().map(|unit| unit[unit.len() - 1]).collect();
+        let least_tied: Allocation = tied.iter().map(|unit| unit[0]).collect();
         let priced: i128 = choices.iter().map(|offer| priced_cost(offer, multiplier)).sum();
-        Evaluation { choices, dual: priced + multiplier * self.demand_net }
+        let lowered = self.lowered(&choices, &least_tied);
+        Evaluation { choices, least_tied, lowered, dual: priced + multiplier * self.demand_net }
+    }
+
+    /// The choices, and where they cover, unit by unit in file order its least tied output instead wherever the whole still covers.
+    fn lowered(&self, choices: &[Offer], least_tied: &[Offer]) -> Allocation {
+        let mut lowered = choices.to_vec();
+        for (unit, least) in least_tied.iter().enumerate() {
+            let mut tried = lowered.clone();
+            tried[unit] = *least;
+            if self.surplus(choices) >= 0 && self.surplus(&tried) >= 0 {
+                lowered = tried;
+            }
+        }
+        lowered
     }
 
     pub fn surplus(&self, allocation: &[Offer]) -> i128 {
@@ -393,33 +417,33 @@ pub fn floor(dual: i128) -> i128 {
     -(-dual).div_euclid(COST_SCALE)
 }
 
-/// The best allocation, and the floors of all evaluations in the order in which they were made.
-struct Search {
-    best: Allocation,
-    floors: Vec<i128>,
+/// The best allocation, and all multipliers with their evaluations in the order in which they were made.
+pub struct Search {
+    pub best: Allocation,
+    pub visits: Vec<(i128, Evaluation)>,
 }
 
 impl Search {
     /// The greatest floor of all evaluations. Demand 3 says that no other multiplier has a greater one.
     fn greatest_floor(&self) -> i128 {
-        self.floors.iter().copied().fold(self.floors[0], i128::max)
+        self.visits.iter().map(|(_, evaluation)| floor(evaluation.dual)).max().expect("an evaluation")
     }
 
-    /// Evaluates a multiplier and takes its choices as the best if they cover; tells the surplus of the choices.
+    /// Evaluates a multiplier and takes its lowered choices as the best if they cover; tells their surplus.
     fn visit(&mut self, problem: &Problem, multiplier: i128) -> i128 {
         let evaluation = problem.evaluate(multiplier);
-        self.floors.push(floor(evaluation.dual));
-        let surplus = problem.surplus(&evaluation.choices);
+        let surplus = problem.surplus(&evaluation.lowered);
         if surplus >= 0 {
-            self.best = evaluation.choices;
+            self.best = evaluation.lowered.clone();
         }
+        self.visits.push((multiplier, evaluation));
         surplus
     }
 }
 
 /// Steps 2 to 4.
-fn search(problem: &Problem) -> Search {
-    let mut search = Search { best: problem.greatest.clone(), floors: Vec::new() };
+pub fn search(problem: &Problem) -> Search {
+    let mut search = Search { best: problem.greatest.clone(), visits: Vec::new() };
     if search.visit(problem, 0) >= 0 {
         return search;
     }
@@ -438,6 +462,14 @@ fn search(problem: &Problem) -> Search {
     search
 }
 
+/// The outputs of the best before they were lowered, where some multiplier's choices cover.
+pub fn unlowered(case: &Case) -> Option<Vec<i128>> {
+    let problem = problem(case).ok()?;
+    let visits = search(&problem).visits;
+    let covering = visits.iter().rev().find(|(_, evaluation)| problem.surplus(&evaluation.choices) >= 0);
+    covering.map(|(_, evaluation)| evaluation.choices.iter().map(|offer| offer.output).collect())
+}
+
 // ---- the reply
 
 #[derive(Clone, Debug, PartialEq, Eq)]
@@ -454,7 +486,7 @@ pub fn solve(case: &Case) -> Result<Reply, Refused> {
     let search = search(&problem);
     let cost = total_cost(&search.best);
     Ok(Reply {
-        evaluations: search.floors.len() as i128,
+        evaluations: search.visits.len() as i128,
         cost,
         gap: cost - search.greatest_floor(),
         surplus: problem.surplus(&search.best),

@@ -100,7 +100,7 @@ pub fn table() -> Vec<Vector> {
         replied(10, vec![u()], whole(vec![10], 200_000, 0, 2, 0)),
         refused(11, vec![u()], 11),
         refused(10, vec![Unit { b: 1, ..u() }], 11),
-        replied(5, vec![u(), u()], whole(vec![3, 3], 78_000, 15_000, 18, 100_000_000)),
+        replied(5, vec![u(), u()], whole(vec![2, 3], 63_000, 0, 18, 0)),
         replied(0, vec![ramped(1)], whole(vec![4], 56_000, 0, 1, 400_000_000)),
         refused(0, vec![ramped(0)], 11),
         refused(5, vec![with_lower_edge(2)], 9),
@@ -111,12 +111,6 @@ pub fn table() -> Vec<Vector> {
 /// Vectors for wrong rules that the table does not see.
 pub fn further() -> Vec<Vector> {
     vec![
-        // the least output on a tie
-        replied(
-            0,
-            vec![Unit { c1: 0, c2: 0, ..u() }],
-            Stated { evaluations: Some(1), surplus: Some(1_000_000_000), outputs: vec![10], ..Stated::default() },
-        ),
         // a floor rounded down
         replied(
             5,
@@ -155,10 +149,77 @@ fn covered_by_no_choice(demand: i128, b: i128) -> Vector {
     replied(demand, vec![lossy(b)], stated)
 }
 
+/// Cases in which outputs tie: where the choices cover, each unit in file order goes to its least tied output or stays.
+pub fn lowered() -> Vec<Vector> {
+    let free = || Unit { c1: 0, c2: 0, ..u() };
+    let flat = || Unit { c2: 0, zones: vec![], ..u_must_run() };
+    let without_zone = || Unit { zones: vec![], ..u() };
+    let with_steps = |up, down| Unit { previous: 3, up, down, ..u_must_run() };
+    let high = || Unit { c1: 4_579_048, b: 3_125, least: 9_999, greatest: 10_000, zones: vec![], ..u_must_run() };
+    let lossy_pair = || vec![Unit { c1: 994_999, b: 20, ..u() }; 2];
+    vec![
+        // units that move together: 2 and 3 tie at 15
+        replied(8, vec![u(); 3], whole(vec![2, 3, 3], 102_000, 0, 18, 0)),
+        replied(7, vec![u(); 3], whole(vec![2, 2, 3], 87_000, 0, 18, 0)),
+        replied(70, vec![u(); 32], whole([[2; 26].as_slice(), &[3; 6]].concat(), 858_000, 0, 18, 0)),
+        // a tie over a zone, 4 and 7 at 21; over one with nothing inside, 4 and 5 at 19
+        replied(11, vec![u(); 2], whole(vec![4, 7], 175_000, 0, 18, 0)),
+        replied(9, vec![Unit { zones: vec![(4, 5)], ..u() }; 2], whole(vec![4, 5], 131_000, 0, 18, 0)),
+        // all or nothing: the first stays for cover, the second is lowered
+        replied(12, vec![u(), without_zone()], whole(vec![7, 5], 194_000, 0, 18, 0)),
+        // another order than the file's: the first is lowered, and the second stays though it would have gained more
+        replied(10, vec![u(), without_zone()], whole(vec![4, 6], 152_000, 0, 18, 0)),
+        replied(10, vec![without_zone(), u()], whole(vec![5, 7], 194_000, 42_000, 18, 200_000_000)),
+        // no lowering at 0
+        replied(0, vec![free()], whole(vec![0], 0, 0, 1, 0)),
+        replied(10, vec![free(); 2], whole(vec![0, 10], 0, 0, 1, 0)),
+        replied(0, vec![Unit { mark: 1, ..free() }], whole(vec![2], 0, 0, 1, 200_000_000)),
+        // the least tied output where it does not cover, or one between: 0 to 10 tie at 0
+        replied(15, vec![free(); 2], whole(vec![10, 10], 0, 0, 1, 500_000_000)),
+        // no lowering at 65,536: 0 and 10 tie; the search ends there, or goes on and comes back
+        replied(10, vec![starting_at_65_536(); 2], whole(vec![0, 10], 655_360_000, 0, 2, 0)),
+        replied(9, vec![starting_at_65_536(); 2], whole(vec![0, 10], 655_360_000, 65_536_000, 18, 100_000_000)),
+        replied(11, vec![starting_at_65_536(); 2], whole(vec![10, 10], 1_310_720_000, 589_824_000, 18, 900_000_000)),
+        // 9,999 and 10,000 tie at 65,536
+        replied(20_624, vec![high(); 3], whole(vec![9_999, 9_999, 10_000], 437_322_283_904, 16_379_904, 18, 24_993_750)),
+        // an equal net by lowering alone that does not end step 4: 2 and 3 tie at 16
+        replied(5, vec![Unit { c1: 11_000, ..u() }; 2], whole(vec![2, 3], 68_000, 0, 14, 0)),
+        // standing and running, 0 and 2 tie at 12
+        replied(2, vec![u(); 2], whole(vec![0, 2], 24_000, 0, 16, 0)),
+        replied(1, vec![u(); 2], whole(vec![0, 2], 24_000, 12_000, 18, 100_000_000)),
+        replied(3, vec![u(); 2], whole(vec![2, 2], 48_000, 12_000, 18, 100_000_000)),
+        // an output between: 2 to 10 tie at 10, or 0 and those; 0, 2 and 3 tie at 15
+        replied(15, vec![flat(); 2], whole(vec![10, 10], 200_000, 50_000, 18, 500_000_000)),
+        replied(12, vec![flat(); 2], whole(vec![2, 10], 120_000, 0, 17, 0)),
+        replied(11, vec![flat(); 2], whole(vec![2, 10], 120_000, 10_000, 18, 100_000_000)),
+        replied(5, vec![Unit { c2: 0, ..u() }], whole(vec![10], 100_000, 50_000, 18, 500_000_000)),
+        replied(5, vec![with_c0(6_000); 2], whole(vec![3, 3], 90_000, 15_000, 18, 100_000_000)),
+        replied(5, vec![with_c0(6_000); 3], whole(vec![0, 3, 3], 90_000, 15_000, 18, 100_000_000)),
+        // a tied output outside the ramp window: with 2 they tie, from 3 on they do not
+        replied(5, vec![with_steps(1, 1); 2], whole(vec![2, 3], 63_000, 0, 18, 0)),
+        replied(5, vec![with_steps(1, 0); 2], whole(vec![3, 3], 78_000, 0, 1, 100_000_000)),
+        // losses left out of cover: 2 and 3 net 260 too little
+        replied(5, lossy_pair(), whole(vec![3, 3], 5_987_994, 999_996, 18, 99_999_640)),
+        replied(4, lossy_pair(), whole(vec![2, 3], 4_987_995, 999_997, 18, 99_999_740)),
+        // the greatest outputs lowered where 65,536 does not cover
+        replied(
+            5_000,
+            vec![lossy(5_000), starting_at_65_536()],
+            whole(vec![10_000, 10], 200_655_360_000, 26_378_560_000, 2, 1_000_000_000),
+        ),
+    ]
+}
+
+/// U with only a c0, so large that at 65,536 it is as well off standing as at 10.
+pub fn starting_at_65_536() -> Unit {
+    Unit { c0: 655_360_000, c1: 0, c2: 0, ..u() }
+}
+
 /// Cases of edition 2 (rule 17.4).
 pub fn edition_2() -> Vec<Vector> {
     let must_not = Unit { mark: 2, ..u() };
     let lossy = |b, b1| Unit { b, b1, ..u() };
+    let tied_at_15 = |c1, b1| vec![Unit { c1, b1, ..u() }; 2];
     let vectors = vec![
         // edition 2 refused, or its edges read where edition 1 has them
         replied(5, vec![u()], whole(vec![7], 119_000, 42_000, 18, 200_000_000)),
@@ -173,6 +234,10 @@ pub fn edition_2() -> Vec<Vector> {
         refused(10, vec![with_b1(1)], 11),
         // b1 of another unit
         replied(5, vec![with_b1(10_000_000), with_b1(-10_000_000)], whole(vec![2, 3], 63_000, 1_400, 18, 10_000_000)),
+        // b1 left out of a tie, or of cover when a unit is lowered
+        replied(5, tied_at_15(11_500, -10_000_000), whole(vec![2, 3], 70_500, 7_500, 18, 50_000_000)),
+        replied(5, tied_at_15(8_500, 10_000_000), whole(vec![3, 3], 69_000, 6_000, 18, 40_000_000)),
+        replied(4, tied_at_15(8_500, 10_000_000), whole(vec![2, 3], 55_500, 7_500, 18, 50_000_000)),
         // the most that b and b1 may be together; 8 before 18
         replied(5, vec![lossy(5_000, 4_999)], whole(vec![7], 119_000, 41_979, 18, 199_720_007)),
         refused(5, vec![lossy(5_000, 5_000)], 18),
@@ -301,11 +366,15 @@ pub fn judgements() -> Vec<Judgement> {
         judgement(5, &u_and_u, &[7], too_many_or_few),
         judgement(11, &[u()], &[], nothing_covers),
         judgement(11, &[u()], &[10], nothing_covers),
-        // two units: cheaper than dispatch's own 3 and 3
+        // two units: dispatch's own 2 and 3, the same the other way round, and the choices before they are lowered
         judgement(5, &u_and_u, &[2, 3], accepted(63_000, 0, 0)),
+        judgement(5, &u_and_u, &[3, 2], accepted(63_000, 0, 0)),
         judgement(5, &u_and_u, &[3, 3], accepted(78_000, 100_000_000, 15_000)),
         judgement(5, &u_and_u, &[2, 2], not_accepted),
         judgement(5, &u_and_u, &[7, 0], accepted(119_000, 200_000_000, 56_000)),
+        // cheaper than dispatch's own 3 and 3
+        judgement(5, &vec![with_c0(6_000); 2], &[2, 3], accepted(75_000, 0, 0)),
+        judgement(5, &vec![with_c0(6_000); 2], &[3, 3], accepted(90_000, 100_000_000, 15_000)),
         // 32 units
         judgement(64, &vec![u(); 32], &[2; 32], accepted(768_000, 0, 0)),
         judgement(100, &vec![u(); 32], &[[4; 25].as_slice(), &[0; 7]].concat(), accepted(1_400_000, 0, 84_000)),
@@ -362,7 +431,7 @@ pub fn check() -> usize {
         assert_eq!(solver::price(&u5, multiplier), Ok(Priced { dual, covered }), "U5 priced at {}", multiplier);
     }
     check_views();
-    let vectors: Vec<Vector> = table().into_iter().chain(further()).chain(edition_2()).collect();
+    let vectors: Vec<Vector> = table().into_iter().chain(further()).chain(lowered()).chain(edition_2()).collect();
     for vector in &vectors {
         check_vector(vector);
     }
@@ -392,7 +461,7 @@ fn check_vector(vector: &Vector) {
 }
 
 fn check_stated(stated: &Stated, reply: &Reply) {
-    assert_eq!(stated.outputs, reply.outputs);
+    assert_eq!(stated.outputs, reply.outputs, "{:?}", reply);
     let numbers = [
         (stated.evaluations, reply.evaluations),
         (stated.cost, reply.cost),
@@ -400,6 +469,6 @@ fn check_stated(stated: &Stated, reply: &Reply) {
         (stated.surplus, reply.surplus),
     ];
     for (stated, replied) in numbers {
-        assert_eq!(stated.unwrap_or(replied), replied);
+        assert_eq!(stated.unwrap_or(replied), replied, "{:?}", reply);
     }
 }

@@ -14,9 +14,8 @@ use Rattle.rules.specs.Bisection.{Found, step4}
 use Rattle.rules.proofs.Economics.Steps.{step4-equal, step4-covers, step4-short, step4-ends}
 use Rattle.pricing.specs.Totals.{HoldsOutputs, Sized}
 use Rattle.bisection.specs.declared.steps.Allocation as code-allocation
-use Rattle.bisection.specs.declared.steps.Selected as code-selected
 use Rattle.bisection.specs.declared.steps.Found as code
-use Rattle.bisection.specs.Search.{sumsOf, allocated, Selects, HoldsFound, Started, halved, Halves}
+use Rattle.bisection.specs.Search.{sumsOf, Selected, allocated, Selects, HoldsFound, Started, halved, Halves}
 
 -- the greatest floor with one multiplier more
 pub floor-more : (q : Problem) (m n : ℕ) (ms : List ℕ) (z : ℤ) → z ≡ greatestFloor q (n ∷ ms) → (d : ℤ) → d ≡ dualValue m q → cond (leZ (dividedUp d 100000) z) z (dividedUp d 100000) ≡ greatestFloor q (m ∷ n ∷ ms)
@@ -52,7 +51,7 @@ one-power zero e = refl
 one-power (suc k) e = absurd (let f : 2 ^ k * 2 ≡ 1 = sym (pow-suc 2 k) ∙ e in omega arith)
 
 -- f with the floor and the count of an evaluation, and another best
-abbrev pub noted : code-allocation.Allocation → code.Found → code-selected.Selected → code.Found
+abbrev pub noted : code-allocation.Allocation → code.Found → Selected → code.Found
 noted best f s =
     record {
       best = best;
@@ -90,7 +89,7 @@ module _ {H : Problem → Type 0} {n : ℕ} {start : code.Found} where
 
     -- ---- one evaluation more
 
-    module _ (more : width ≡ 1 → ⊥) {outputs : List ℕ} {s : code-selected.Selected} (v : Selects H n (low + width / 2) outputs s) {t : ℕ} (demanded : (q : Problem) → H q → t ≡ target q) where
+    module _ (more : width ≡ 1 → ⊥) {outputs : List ℕ} {s : Selected} (v : Selects H n (low + width / 2) outputs s) {t : ℕ} (demanded : (q : Problem) → H q → t ≡ target q) where
       abbrev j : ℕ
       j = half width (h .k) (h .power) more .0
 

@@ -1,4 +1,5 @@
 pub mod ReplyWritten
+pub mod Lowered
 pub mod Selecting
 pub mod Halving
 pub mod Searching

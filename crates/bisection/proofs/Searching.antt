@@ -13,12 +13,11 @@ use Rattle.rules.specs.Bisection.{Found, step3, search, greatestOutputs, found}
 use Rattle.rules.proofs.Economics.Steps.{step3-short, step3-equal, step3-covers, search-covers, search-short}
 use Rattle.pricing.specs.Totals.{HoldsOutputs, Sized}
 use Rattle.bisection.specs.declared.steps.Allocation as code-allocation
-use Rattle.bisection.specs.declared.steps.Selected as code-selected
 use Rattle.bisection.specs.declared.steps.Found as code
-use Rattle.bisection.specs.Search.{sumsOf, allocated, Selects, HoldsFound, Halves, Searches}
+use Rattle.bisection.specs.Search.{sumsOf, Selected, allocated, Selects, HoldsFound, Halves, Searches}
 use Rattle.bisection.proofs.Halving.{floor-more}
 
-module _ {H : Problem → Type 0} {n t : ℕ} (demanded : (q : Problem) → H q → t ≡ target q) {outputs₀ : List ℕ} {s₀ : code-selected.Selected} (v₀ : Selects H n 0 outputs₀ s₀) where
+module _ {H : Problem → Type 0} {n t : ℕ} (demanded : (q : Problem) → H q → t ≡ target q) {outputs₀ : List ℕ} {s₀ : Selected} (v₀ : Selects H n 0 outputs₀ s₀) where
   abbrev floor₀ : ℤ
   floor₀ = dividedUp (s₀ .dual) 100000
 
@@ -40,7 +39,7 @@ module _ {H : Problem → Type 0} {n t : ℕ} (demanded : (q : Problem) → H q 
             (record { best = o; floor = floor₀-is q i; evaluations = refl });
       }
 
-  module _ (short : s₀ .net < t) {outputs : List ℕ} {s : code-selected.Selected} (v : Selects H n 65536 outputs s) where
+  module _ (short : s₀ .net < t) {outputs : List ℕ} {s : Selected} (v : Selects H n 65536 outputs s) where
     abbrev floor₁ : ℤ
     floor₁ = cond (leZ (dividedUp (s .dual) 100000) floor₀) floor₀ (dividedUp (s .dual) 100000)
 

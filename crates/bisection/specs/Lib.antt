@@ -1,3 +1,4 @@
 pub mod ReplyHeld
+pub mod Lowering
 pub mod Search
 pub mod Solved

@@ -2,6 +2,7 @@
 use Prim.Native.Nat.{ℕ, _≤_}
 use mathlib.Core.Path.{_≡_}
 use mathlib.Core.List.{List, [], _∷_}
+use lib.IntN.{ℤ}
 use lib.ListN.{length}
 use Rattle.rules.specs.Problem.{Problem, unitsOf, totalNet, target}
 use Rattle.rules.specs.Choice.{selected, dualValue, greatestFloor}
@@ -10,7 +11,6 @@ use Rattle.site.specs.Site.{HoldsProblem}
 use Rattle.pricing.specs.declared.Sums.{Sums}
 use Rattle.pricing.specs.Totals.{HoldsOutputs, Sized}
 use Rattle.bisection.specs.declared.steps.Allocation as code-allocation
-use Rattle.bisection.specs.declared.steps.Selected as code-selected
 use Rattle.bisection.specs.declared.steps.Found as code
 
 -- the arrays hold the problem q, and t is the net that covers its demand
@@ -27,11 +27,17 @@ pub record Searchable (coefficients ends ranges : List ℕ) (n t : ℕ) : Type 0
 abbrev pub sumsOf : code-allocation.Allocation → Sums
 sumsOf a = record { cost = a .cost; net = a .net }
 
-abbrev pub allocated : List ℕ → code-selected.Selected → code-allocation.Allocation
+-- what an evaluation takes besides the outputs: their cost and net together, and the multiplier's dual value
+pub record Selected : Type 0 where
+  pub cost : ℕ
+  pub net : ℕ
+  pub dual : ℤ
+
+abbrev pub allocated : List ℕ → Selected → code-allocation.Allocation
 allocated outputs s = record { outputs = outputs; cost = s .cost; net = s .net }
 
 -- an evaluation of m took these outputs
-pub record Selects (H : Problem → Type 0) (n m : ℕ) (outputs : List ℕ) (s : code-selected.Selected) : Type 0 where
+pub record Selects (H : Problem → Type 0) (n m : ℕ) (outputs : List ℕ) (s : Selected) : Type 0 where
   pub sized : Sized n (sumsOf (allocated outputs s))
   pub taken : (q : Problem) → H q → HoldsOutputs q (selected m q) outputs (sumsOf (allocated outputs s))
   pub dual : (q : Problem) → H q → s .dual ≡ dualValue m q

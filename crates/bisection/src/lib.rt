@@ -1,5 +1,6 @@
 // The dual bisection (section 11 of docs/SPECIFICATION.md), the reply, and dispatch from a case file's bytes to the reply's.
 mod dispatching;
+mod lowering;
 mod reply;
 mod steps;
 

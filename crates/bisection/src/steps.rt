@@ -1,10 +1,11 @@
 // The search, steps 2 to 4 (rules 11.3 to 11.11), over a decoded site.
 ghost use mathlib.Core.Path.{_≡_};
 ghost use mathlib.Core.Bool.{cond};
-ghost use Prim.Native.Nat.{_≤_};
 ghost use lib.Signed.{leZ};
 ghost use Rattle.pricing.specs.Totals.{Sized};
-ghost use Rattle.bisection.specs.Search.{Holding, Searchable, Selects, sumsOf, Started, Halves, Searches};
+ghost use Rattle.bisection.specs.Search.{Holding, Searchable, sumsOf, Started, Halves, Searches};
+use crate::lowering::lower;
+use pricing::Evaluated;
 use pricing::Sums;
 
 // Outputs of the units, with their cost and net together.
@@ -14,40 +15,11 @@ pub struct Allocation {
     pub net: u64,
 }
 
-// What an evaluation takes besides the outputs: their cost and net together, and the multiplier's dual value.
-pub struct Selected {
-    pub cost: u64,
-    pub net: u64,
-    pub dual: i64,
-}
-
 // What the search has found so far: its best allocation, the greatest floor, and the number of evaluations.
 pub struct Found {
     pub best: Allocation,
     pub floor: i64,
     pub evaluations: u16,
-}
-
-// One evaluation, of `m`: writes the outputs that it takes.
-pub fn select(
-    coefficients: &[u64; 160],
-    ends: &[u16; 384],
-    ranges: &[u8; 64],
-    n: usize,
-    target: u64,
-    m: u64,
-    outputs: &mut [u16; 32],
-) -> Selected
-    requires { ⌜ Searchable (now coefficients) (now ends) (now ranges) n target × (m ≤ 65536) ⌝ }
-    ensures { λ r. ⌜ Selects (Holding (now (coefficients .entry)) (now (ends .entry)) (now (ranges .entry)) n target) n m (now (outputs .exit)) r ⌝ }
-{
-    let s = pricing::evaluate(coefficients, ends, ranges, n, m, outputs);
-    let Sums { cost, net } = s;
-    Selected {
-        cost,
-        net,
-        dual: pricing::dual_of(s, target, m),
-    }
 }
 
 // The greater of two floors.
@@ -73,6 +45,7 @@ fn halve(
     let mut floor = start.floor;
     let mut evaluations = start.evaluations;
     let mut outputs = [0u16; 32];
+    let mut least = [0u16; 32];
     let mut low: u64 = 0;
     let mut width: u64 = 65536;
     let found = loop {
@@ -85,27 +58,39 @@ fn halve(
         }
         width = width / 2;
         let middle = low + width;
-        let s = select(coefficients, ends, ranges, n, target, middle, &mut outputs);
-        floor = greater(pricing::floor_of(s.dual), floor);
+        let Evaluated { cost, net, spread } = pricing::evaluate(
+            coefficients,
+            ends,
+            ranges,
+            n,
+            middle,
+            &mut outputs,
+            &mut least,
+        );
+        let s = Sums { cost, net };
+        floor = greater(
+            pricing::floor_of(pricing::dual_of(s, target, middle)),
+            floor,
+        );
         evaluations += 1;
-        let net = s.net;
-        if net == target {
-            break Found {
-                best: Allocation {
-                    outputs,
-                    cost: s.cost,
-                    net,
-                },
-                floor,
-                evaluations,
-            };
-        }
-        if net > target {
-            best = Allocation {
-                outputs,
-                cost: s.cost,
-                net,
-            };
+        if net >= target {
+            let Sums { cost, net } = lower(
+                coefficients,
+                n,
+                target,
+                s,
+                spread,
+                &least,
+                &mut outputs,
+            );
+            if net == target {
+                break Found {
+                    best: Allocation { outputs, cost, net },
+                    floor,
+                    evaluations,
+                };
+            }
+            best = Allocation { outputs, cost, net };
         } else {
             low = middle;
         }
@@ -126,23 +111,37 @@ pub fn search(
     ensures { λ r. ⌜ Searches (Holding (now (coefficients .entry)) (now (ends .entry)) (now (ranges .entry)) n target) n first r ⌝ }
 {
     let mut outputs = [0u16; 32];
-    let s = select(coefficients, ends, ranges, n, target, 0, &mut outputs);
-    let floor = pricing::floor_of(s.dual);
-    let net = s.net;
+    let mut least = [0u16; 32];
+    let Evaluated { cost, net, spread } = pricing::evaluate(
+        coefficients,
+        ends,
+        ranges,
+        n,
+        0,
+        &mut outputs,
+        &mut least,
+    );
+    let s = Sums { cost, net };
+    let floor = pricing::floor_of(pricing::dual_of(s, target, 0));
     if net >= target {
+        let Sums { cost, net } = lower(coefficients, n, target, s, spread, &least, &mut outputs);
         return Found {
-            best: Allocation {
-                outputs,
-                cost: s.cost,
-                net,
-            },
+            best: Allocation { outputs, cost, net },
             floor,
             evaluations: 1,
         };
     }
-    let s = select(coefficients, ends, ranges, n, target, 65536, &mut outputs);
-    let floor = greater(pricing::floor_of(s.dual), floor);
-    let net = s.net;
+    let Evaluated { cost, net, spread } = pricing::evaluate(
+        coefficients,
+        ends,
+        ranges,
+        n,
+        65536,
+        &mut outputs,
+        &mut least,
+    );
+    let s = Sums { cost, net };
+    let floor = greater(pricing::floor_of(pricing::dual_of(s, target, 65536)), floor);
     if net < target {
         return Found {
             best: first,
@@ -150,12 +149,9 @@ pub fn search(
             evaluations: 2,
         };
     }
+    let Sums { cost, net } = lower(coefficients, n, target, s, spread, &least, &mut outputs);
     let covering = Found {
-        best: Allocation {
-            outputs,
-            cost: s.cost,
-            net,
-        },
+        best: Allocation { outputs, cost, net },
         floor,
         evaluations: 2,
     };

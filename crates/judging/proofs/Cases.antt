@@ -12,7 +12,7 @@ use Rattle.rules.specs.Unit.{zones, permitted, cost, linearFactor, net}
 use Rattle.rules.specs.Layout.{Case, edgeOfBody, unitOfBody, bodyOfUnit, caseOf, contentsFrom, bodiesOf, fileOf}
 use Rattle.rules.specs.Refusal.{_refuses_, _then_, editionVerdict, headVerdict, contentsVerdict, zonesAscend, unitVerdict, bodyVerdict, fileVerdict}
 use Rattle.rules.specs.Problem.{allocation, totalCost, totalNet, offer, problemOf}
-use Rattle.rules.specs.Choice.{pricedCost, leastFrom, choiceOf, choices, selected, dualValue, floor, greatestFloor}
+use Rattle.rules.specs.Choice.{pricedCost, preferredFrom, preferred, choices, lowered, selected, dualValue, floor, greatestFloor}
 use Rattle.rules.specs.Bisection.{step4, step3, search, greatestOutputs, solvable, found}
 use Rattle.rules.specs.Calls.{caseVerdict}
 use Rattle.rules.specs.CaseFiles.{u5, site, site2, shortHead, otherEdition, noUnit, demandAbove, byteTooMany, noZone, linearCostAbove, edgeAtLeast, otherMark, withLinearLoss, U, lossy, marked, costing}
@@ -58,7 +58,7 @@ abbrev computed : Row → Judged
 computed r = endsByEvaluated (judgeVerdict (r .file) (r .outputs)) (r .file) (r .outputs)
 
 judgements-compute : map computed judgements ≡ map (λ r. r .answer) judgements
-unfolding judgements endsByEvaluated toldByEvaluated judgeVerdict acceptable numberAfter signed bytes bytesOfEach zones edgeOfBody unitOfBody bodyOfUnit caseOf contentsFrom bodiesOf fileOf editionVerdict headVerdict contentsVerdict zonesAscend unitVerdict bodyVerdict fileVerdict permitted cost linearFactor net totalCost totalNet offer problemOf pricedCost leastFrom choiceOf total choices selected dualValue dividedUp floor greatestAt step4 step3 search greatestOutputs solvable found natural caseVerdict allocation u5 site site2 shortHead otherEdition noUnit demandAbove byteTooMany noZone linearCostAbove edgeAtLeast otherMark withLinearLoss U lossy marked costing fourZones
+unfolding judgements endsByEvaluated toldByEvaluated judgeVerdict acceptable numberAfter signed bytes bytesOfEach zones edgeOfBody unitOfBody bodyOfUnit caseOf contentsFrom bodiesOf fileOf editionVerdict headVerdict contentsVerdict zonesAscend unitVerdict bodyVerdict fileVerdict permitted cost linearFactor net totalCost totalNet offer problemOf pricedCost preferredFrom preferred total choices lowered selected dualValue dividedUp floor greatestAt step4 step3 search greatestOutputs solvable found natural caseVerdict allocation u5 site site2 shortHead otherEdition noUnit demandAbove byteTooMany noZone linearCostAbove edgeAtLeast otherMark withLinearLoss U lossy marked costing fourZones
 judgements-compute = refl
 
 pub judgements-hold : map (λ r. judged (r .file) (r .outputs)) judgements ≡ map (λ r. r .answer) judgements
@@ -76,7 +76,7 @@ abbrev panelComputed : PanelRow → PanelJudgeResult
 panelComputed r = let a = endsByEvaluated (panelVerdict r) (r .file) (r .outputs) in record { number = numberOfJudged a; answers = answersOfJudged a (r .before) }
 
 panel-judgements-compute : map panelComputed panelJudgements ≡ map (λ r. record { number = r .number; answers = r .after }) panelJudgements
-unfolding panelJudgements endsByEvaluated toldByEvaluated judgeVerdict acceptable numberAfter signed bytes bytesOfEach zones edgeOfBody unitOfBody bodyOfUnit caseOf contentsFrom bodiesOf fileOf editionVerdict headVerdict contentsVerdict zonesAscend unitVerdict bodyVerdict fileVerdict permitted cost linearFactor net totalCost totalNet offer problemOf pricedCost leastFrom choiceOf total choices selected dualValue dividedUp floor greatestAt step4 step3 search greatestOutputs solvable found natural caseVerdict allocation u5 shortHead U costing
+unfolding panelJudgements endsByEvaluated toldByEvaluated judgeVerdict acceptable numberAfter signed bytes bytesOfEach zones edgeOfBody unitOfBody bodyOfUnit caseOf contentsFrom bodiesOf fileOf editionVerdict headVerdict contentsVerdict zonesAscend unitVerdict bodyVerdict fileVerdict permitted cost linearFactor net totalCost totalNet offer problemOf pricedCost preferredFrom preferred total choices lowered selected dualValue dividedUp floor greatestAt step4 step3 search greatestOutputs solvable found natural caseVerdict allocation u5 shortHead U costing
 panel-judgements-compute = refl
 
 pub panel-judgements-hold : map (λ r. panelJudged (r .file) (r .outputs) (r .before)) panelJudgements ≡ map (λ r. record { number = r .number; answers = r .after }) panelJudgements

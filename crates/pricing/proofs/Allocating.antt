@@ -1,7 +1,7 @@
--- A loop that gives the units their outputs one by one: what stands so far, with what is still to come, is the whole. Of any output that is picked of an offer, so of the choices and of the greatest outputs.
-use mathlib.Core.Path.{_≡_, refl, sym, ap, _∙_, subst}
+-- A loop that gives the units their outputs one by one: what stands so far, with what is still to come, is the whole. Of any output that is picked of an offer, so of the choices, of the least tied and of the greatest outputs.
+use mathlib.Core.Path.{_≡_, refl, sym, ap, ap₂, _∙_, subst}
 use mathlib.Core.List.{List, [], _∷_, _++_, map, append-assoc, append-nil}
-use Prim.Native.Nat.{ℕ, _+_, _≤_, _<_}
+use Prim.Native.Nat.{ℕ, _+_, _*_, _-_, _≤_, _<_}
 use native.Mathlib.Numerals.{add-one}
 use native.Mathlib.Omega.{arith}
 use lib.ListN.{length, getD, take, drop, set, length-set, drop-of-length-le}
@@ -11,7 +11,7 @@ use Rattle.rules.specs.Problem.{totalCost, totalNet, Offer, Problem, unitsOf}
 use Rattle.rules.proofs.Economics.Quantities.{cost-range, net-range}
 use Rattle.site.specs.Site.{Coefficients, noOffer, HoldsOffer, HoldsProblem}
 use Rattle.pricing.specs.declared.Sums as code
-use Rattle.pricing.specs.Totals.{Held, HoldsOutputs, Sized, Allocates}
+use Rattle.pricing.specs.Totals.{Held, HoldsOutputs, HoldsEach, Sized, Allocates}
 
 module _ (pick : Offer → ℕ) where
   -- of a problem: the first i units have their outputs
@@ -22,8 +22,26 @@ module _ (pick : Offer → ℕ) where
     abbrev units : List Offer → List Unit
     units os = map (λ o. o .unit) os
 
+    next-offer : (i : ℕ) → i < length (q .offers) → left i ≡ getD (q .offers) i noOffer ∷ left (i + 1)
+    next-offer i l = drop-cons (q .offers) i noOffer l ∙ ap (λ (k : ℕ). getD (q .offers) i noOffer ∷ drop k (q .offers)) (sym (add-one i))
+
+    -- the array has what is picked of them
+    abbrev Filled : List ℕ → ℕ → Type 0
+    Filled array i = take i array ++ map pick (left i) ≡ map pick (q .offers)
+
+    filled-more : (array : List ℕ) (i r : ℕ) → Filled array i → i < length array → i < length (q .offers) → r ≡ pick (getD (q .offers) i noOffer) → Filled (set array i r) (i + 1)
+    filled-more array i r s h l e =
+        let o = getD (q .offers) i noOffer in
+        let placed : take (i + 1) (set array i r) ≡ take i array ++ (pick o ∷ []) = rw (add-one i, e) (take-suc-set array i (pick o) h) in
+        rw placed (append-assoc (take i array) (pick o ∷ []) (map pick (left (i + 1))) ∙ (rw (next-offer i l) at s))
+
+    filled-ends : (array : List ℕ) (i : ℕ) → Filled array i → i ≡ length (q .offers) → take (length (q .offers)) array ≡ map pick (q .offers)
+    filled-ends array i s e =
+        let none : left i ≡ [] = drop-of-length-le (q .offers) {i = i} (omega arith) in
+        rw (← e) (sym (append-nil (take i array)) ∙ (rw none at s))
+
     pub record Placed (outputs : List ℕ) (c n i : ℕ) : Type 0 where
-      pub places : take i outputs ++ map pick (left i) ≡ map pick (q .offers)
+      pub places : Filled outputs i
       pub cost : c + totalCost (units (left i)) (map pick (left i)) ≡ totalCost (unitsOf q) (map pick (q .offers))
       pub net : n + totalNet (units (left i)) (map pick (left i)) ≡ totalNet (unitsOf q) (map pick (q .offers))
 
@@ -32,10 +50,9 @@ module _ (pick : Offer → ℕ) where
       unfolding totalCost totalNet
       placed-more {r} {x} {y} h l e d f =
           let o = getD (q .offers) i noOffer in
-          let next : left i ≡ o ∷ left (i + 1) = drop-cons (q .offers) i noOffer l ∙ ap (λ (k : ℕ). o ∷ drop k (q .offers)) (sym (add-one i)) in
-          let placed : take (i + 1) (set outputs i r) ≡ take i outputs ++ (pick o ∷ []) = rw (add-one i, e) (take-suc-set outputs i (pick o) h) in
+          let next = next-offer i l in
           record {
-            places = rw placed (append-assoc (take i outputs) (pick o ∷ []) (map pick (left (i + 1))) ∙ (rw next at (s .places)));
+            places = filled-more outputs i r (s .places) h l e;
             cost = omega (arith, ap (cost (o .unit)) e, rw next at (s .cost));
             net = omega (arith, ap (net (o .unit)) e, rw next at (s .net));
           }
@@ -45,7 +62,7 @@ module _ (pick : Offer → ℕ) where
       placed-ends e =
           let none : left i ≡ [] = drop-of-length-le (q .offers) {i = i} (omega arith) in
           record {
-            places = rw (← e) (sym (append-nil (take i outputs)) ∙ (rw none at (s .places)));
+            places = filled-ends outputs i (s .places) e;
             cost = omega (arith, rw none at (s .cost));
             net = omega (arith, rw none at (s .net));
           }
@@ -83,3 +100,36 @@ module _ (pick : Offer → ℕ) where
 
       pub allocating-ends : i ≡ n → Allocates pick coefficients ends ranges n outputs (record { cost = c; net = w })
       allocating-ends e = record { sized = subst (λ (k : ℕ). Sized k (record { cost = c; net = w })) e (s .sized); held = λ q h. placed-ends q (s .held q h) (omega (arith, h .count)) }
+
+  -- an array beside, without sums
+  pub record Filling (coefficients ends ranges : List ℕ) (n : ℕ) (array : List ℕ) (i : ℕ) : Type 0 where
+    pub room : n ≤ length array
+    pub held : (q : Problem) → HoldsProblem coefficients ends ranges n q → Filled q array i
+
+  module _ {coefficients ends ranges : List ℕ} {n : ℕ} {array : List ℕ} where
+    pub filling-starts : n ≤ length array → Filling coefficients ends ranges n array 0
+    filling-starts room = record { room = room; held = λ q h. refl }
+
+    pub filling-more : {i r : ℕ} → Filling coefficients ends ranges n array i → i < n → ((q : Problem) → HoldsProblem coefficients ends ranges n q → r ≡ pick (getD (q .offers) i noOffer)) → Filling coefficients ends ranges n (set array i r) (i + 1)
+    filling-more {i} {r} s l e = record { room = rw (length-set array i r) (s .room); held = λ q h. filled-more q array i r (s .held q h) (omega (arith, s .room)) (omega (arith, h .count)) (e q h) }
+
+    pub filling-ends : {i : ℕ} → Filling coefficients ends ranges n array i → i ≡ n → HoldsEach pick coefficients ends ranges n array
+    filling-ends {i} s e = record { places = λ q h. subst (λ (k : ℕ). take k array ≡ map pick (q .offers)) (h .count) (filled-ends q array i (s .held q h) (omega (arith, h .count))) }
+
+-- two arrays that are filled alike, as long as what they differ by is summed
+pub record Spread (outputs least : List ℕ) (spread i : ℕ) : Type 0 where
+  pub small : spread ≤ 10000 * i
+  pub alone : spread ≡ 0 → take i least ≡ take i outputs
+
+pub spread-starts : (outputs least : List ℕ) → Spread outputs least 0 0
+spread-starts outputs least = record { small = omega arith; alone = λ _. refl }
+
+pub spread-more : {outputs least : List ℕ} {spread i p l : ℕ} → Spread outputs least spread i → i < length outputs → i < length least → p ≤ 10000 → l ≤ p → Spread (set outputs i p) (set least i l) (spread + (p - l)) (i + 1)
+spread-more {outputs} {least} {spread} {i} {p} {l} s h k small order =
+    record {
+      small = omega (arith, s .small);
+      alone = λ e.
+          let same : l ≡ p = omega arith in
+          let before = s .alone (omega arith) in
+          rw (add-one i) (take-suc-set least i l k ∙ ap₂ (λ (xs : List ℕ) (x : ℕ). xs ++ (x ∷ [])) before same ∙ sym (take-suc-set outputs i p h));
+    }

@@ -1,8 +1,8 @@
 -- A unit's coefficients in the arrays: the range of all that is computed of them, for `omega`, which bounds no product itself; and the curve that they make, which is the unit's priced cost where it runs, and falls and rises by its steps.
 use mathlib.Core.Path.{_≡_, refl, ap, subst, _∙_}
 use mathlib.Core.List.{List}
-use Prim.Native.Nat.{ℕ, _+_, _*_, _-_, _/_, _≤_, _<_}
-use native.Mathlib.Nat.{le-refl, mul-le-mul, mul-le-mul-left, mul-le-mul-right, mul-div-le, lt-mul-div-succ, le-div-iff-mul-le, div-lt-iff-lt-mul}
+use Prim.Native.Nat.{ℕ, _+_, _*_, _-_, _/_, _%_, _≤_, _<_}
+use native.Mathlib.Nat.{le-refl, mul-le-mul, mul-le-mul-left, mul-le-mul-right, mul-div-le, mod-add-div, lt-mul-div-succ, le-div-iff-mul-le, div-lt-iff-lt-mul}
 use native.Mathlib.Decide.{decLt, ℕ-discrete}
 use native.Mathlib.Omega.{arith}
 use lib.IntN.{ℤ, pos, _-ℤ_}
@@ -168,7 +168,7 @@ module _ (c : code.Curve) where
   rise : (r j : ℕ) → 0 < j → t < 2 * (a * r) + a + s → t * j + j ≤ a * (2 * (r * j) + j * j) + s * j
   rise r j h k = omega (arith, squared j h, mul-le-mul-right j k)
 
-  fall : (p j : ℕ) → 0 < j → 2 * (a * (p + j)) + s ≤ a + t → a * (2 * (p * j) + j * j) + s * j ≤ t * j
+  fall : (p j : ℕ) → 0 < j → 2 * (a * (p + j)) + s < a + t → a * (2 * (p * j) + j * j) + s * j + j ≤ t * j
   fall p j h k = omega (arith, squared j h, mul-le-mul-right j k)
 
   -- the value at p, with n put for p
@@ -180,21 +180,22 @@ module _ (c : code.Curve) where
       let e : q ≡ p + (q - p) = omega arith in
       under (value p p refl) (value q (p + (q - p)) e) (omega (arith, rise p (q - p) (omega arith) k))
 
-  falling : (p q : ℕ) → p ≤ q → (p < q → 2 * (a * q) + s ≤ a + t) → height c q ≤ℤ height c p
-  falling p q l k = by (decLt p q)
-    where
-      by : Dec (p < q) → height c q ≤ℤ height c p
-      by (yes h) =
-          let e : q ≡ p + (q - p) = omega arith in
-          at-most (value q (p + (q - p)) e) (value p p refl) (omega (arith, fall p (q - p) (omega arith) (rw (← e) (k h))))
-      by (no h) = let e : q ≡ p = omega arith in subst (λ (n : ℕ). height c q ≤ℤ height c n) e (≤ℤ-refl (height c q))
+  falling : (p q : ℕ) → p < q → 2 * (a * q) + s < a + t → height c q <ℤ height c p
+  falling p q l k =
+      let e : q ≡ p + (q - p) = omega arith in
+      under (value q (p + (q - p)) e) (value p p refl) (omega (arith, fall p (q - p) (omega arith) (rw (← e) k)))
 
-  pub valley : {from to v : ℕ} → (from < v → 2 * (a * v) + s ≤ a + t) → (v < to → t < 2 * (a * v) + a + s) → Valley (height c) from to v
+  pub valley : {from to v : ℕ} → ((q : ℕ) → from < q → q < v → q ≤ to → 2 * (a * q) + s < a + t) → (v < to → t < 2 * (a * v) + a + s) → Valley (height c) from to v
   valley {from} {to} {v} into out =
       record {
-        falls = λ p q f l e h. falling p q l (λ k. omega (arith, into (omega arith), mul-le-mul-left a h));
+        falls = λ p q f l e h. falling p q l (into q (omega arith) h e);
         rises = λ p q f l e h. rising p q l (omega (arith, out (omega arith), mul-le-mul-left a h));
       }
+
+  -- where the curve is flat
+  pub flat : a ≡ 0 → s ≡ t → (p q : ℕ) → height c p ≡ height c q
+  flat e f p q =
+      same (height-is c p) (height-is c q) (omega (arith, ap (λ (n : ℕ). n * (p * p)) e, ap (λ (n : ℕ). n * (q * q)) e, ap (λ (n : ℕ). n * p) f, ap (λ (n : ℕ). n * q) f))
 
   -- the vertex, as a quotient
   module _ (positive : 0 < a) (h : s ≤ a + t) where
@@ -202,10 +203,22 @@ module _ (c : code.Curve) where
     vertex = (a + t - s) / (2 * a)
 
     pub vertex-valley : {from to : ℕ} → Valley (height c) from to ((a + t - s) / (2 * a))
-    vertex-valley = valley {v = vertex} (λ _. omega (arith, mul-div-le (a + t - s) (2 * a))) (λ _. omega (arith, lt-mul-div-succ (a + t - s) {b = 2 * a} (omega arith)))
+    vertex-valley =
+        valley {v = vertex} (λ q _ k _. omega (arith, mul-div-le (a + t - s) (2 * a), mul-le-mul-left (2 * a) k)) (λ _. omega (arith, lt-mul-div-succ (a + t - s) {b = 2 * a} (omega arith)))
 
     pub vertex-from : (p : ℕ) → 2 * (a * p) + s ≤ a + t → p ≤ (a + t - s) / (2 * a)
     vertex-from p k = le-div-iff-mul-le {k = 2 * a} {x = p} {y = a + t - s} (omega arith) .1 (omega arith)
 
-    pub vertex-to : (p : ℕ) → a + t < 2 * (a * p) + s → (a + t - s) / (2 * a) ≤ p
-    vertex-to p k = omega (arith, div-lt-iff-lt-mul {k = 2 * a} {x = a + t - s} {y = p} (omega arith) .1 (omega arith))
+    pub vertex-to : (p : ℕ) → a + t ≤ 2 * (a * p) + s → (a + t - s) / (2 * a) ≤ p
+    vertex-to p k = omega (arith, div-lt-iff-lt-mul {k = 2 * a} {x = a + t - s} {y = p + 1} (omega arith) .1 (omega arith))
+
+    -- the step into it is level where the quotient is exact, and else falls
+    pub vertex-level : 1 ≤ vertex → (a + t - s) % (2 * a) ≡ 0 → height c vertex ≡ height c (vertex - 1)
+    vertex-level k e =
+        let p = vertex - 1 in
+        let next : vertex ≡ p + 1 = omega arith in
+        let exact : 2 * a * vertex ≡ a + t - s = omega (arith, mod-add-div (a + t - s) (2 * a)) in
+        same (value vertex (p + 1) next) (value p p refl) (omega (arith, ap (λ (n : ℕ). 2 * a * n) next))
+
+    pub vertex-falls : 1 ≤ vertex → 0 < (a + t - s) % (2 * a) → height c vertex <ℤ height c (vertex - 1)
+    vertex-falls k e = falling (vertex - 1) vertex (omega arith) (omega (arith, mod-add-div (a + t - s) (2 * a)))

@@ -7,19 +7,19 @@ use native.Mathlib.Omega.{arith}
 use lib.IntN.{ℤ}
 use Rattle.rules.specs.Lists.{greatest}
 use Rattle.rules.specs.Problem.{Offer, Problem, target}
-use Rattle.rules.specs.Choice.{pricedCost, choice, choices, dualValue}
+use Rattle.rules.specs.Choice.{pricedCost, choice, leastTied, choices, dualValue}
 use Rattle.rules.proofs.Lists.{Every, every-from}
 use Rattle.fields.proofs.Integers.{Is, same}
 use Rattle.rules.proofs.Economics.Chosen.{Chosen, Among, some-among, unique, alike, agreed, scanned}
-use Rattle.rules.proofs.Economics.Allocations.{Proper, dual-is, at-most-greatest}
-use Rattle.site.specs.Site.{first, last, high, Within, noOffer, HoldsOffer, HoldsProblem}
+use Rattle.rules.proofs.Economics.Allocations.{Proper, Available, dual-is, at-most-greatest}
+use Rattle.site.specs.Site.{first, last, low, high, Within, noOffer, HoldsOffer, HoldsProblem}
 use Rattle.pricing.specs.declared.Curve as code
 use Rattle.pricing.specs.Curve.{pricedAt, IsCurve, InRange}
 use Rattle.pricing.specs.Choosing.{Choosable}
 use Rattle.pricing.specs.declared.Sums as code-sums
 use Rattle.pricing.specs.Totals.{Allocates}
 use Rattle.pricing.proofs.Heights.{priced-curve}
-use Rattle.pricing.proofs.Regions.{small, to-highest, highest}
+use Rattle.pricing.proofs.Regions.{small, to-highest, lowest, highest}
 
 greatest-at-most : (x : ℕ) (ps : List ℕ) → ((p : ℕ) → Among p ps → p ≤ x) → greatest ps ≤ x
 greatest-at-most x [] h = omega arith
@@ -29,11 +29,13 @@ module _ {coefficients ends ranges : List ℕ} {i : ℕ} {o : Offer} (h : HoldsO
   pub choosable : i < 32 → {c : code.Curve} → InRange c → Choosable ends (first ranges i) (last ranges i) c
   choosable l c = record { few = omega (arith, h .to); regions = h .regions; curve = c }
 
-  module _ {r : ℕ} where
-    pub choice-held : {m : ℕ} {c : code.Curve} → IsCurve m (o .unit) c → Chosen (pricedAt c) (Within ends (first ranges i) (last ranges i)) r → r ≡ choice m o
-    choice-held {m} {c} k d =
-        let of-list : Chosen (pricedCost m (o .unit)) (λ p. Among p (o .outputs)) r = alike (λ p w. h .outputs p .1 w) (λ p a. h .outputs p .0 a) (agreed (λ p w. priced-curve (h .unit .sound) k p (small (h .regions) p w)) d) in
-        unique of-list (scanned (pricedCost m (o .unit)) (o .outputs) (h .proper .ascends) (some-among r (o .outputs) (of-list .candidate)))
+  pub choice-held : {r l : ℕ} {m : ℕ} {c : code.Curve} → IsCurve m (o .unit) c → Chosen (pricedAt c) (Within ends (first ranges i) (last ranges i)) r l → (r ≡ choice m o) × (l ≡ leastTied m o)
+  choice-held {r} {l} {m} {c} k d =
+      let of-list : Chosen (pricedCost m (o .unit)) (λ p. Among p (o .outputs)) r l = alike (λ p w. h .outputs p .1 w) (λ p a. h .outputs p .0 a) (agreed (λ p w. priced-curve (h .unit .sound) k p (small (h .regions) p w)) d) in
+      unique of-list (scanned (pricedCost m (o .unit)) (o .outputs) (h .proper .ascends) (some-among r (o .outputs) (of-list .candidate)))
+
+  pub offer-available : Available o
+  offer-available = record { proper = h .proper; some = some-among (low ends (first ranges i)) (o .outputs) (h .outputs (low ends (first ranges i)) .1 (lowest (h .regions))) }
 
   pub greatest-held : high ends (last ranges i) ≡ greatest (o .outputs)
   greatest-held =
@@ -50,6 +52,9 @@ dual-held t m a k q h e =
     let o = a .held q h in
     same k (dual-is m q) (omega (arith, o .cost, ap (λ (x : ℕ). m * x) (o .net), ap (λ (x : ℕ). m * x) e))
 
--- a problem that the arrays hold has proper offers
+-- a problem that the arrays hold has proper offers, and each has an output
 pub held-proper : {coefficients ends ranges : List ℕ} {n : ℕ} {q : Problem} → HoldsProblem coefficients ends ranges n q → Every Proper (q .offers)
 held-proper {q = q} h = every-from Proper (q .offers) noOffer (λ i l. h .offers i (omega (arith, h .count)) .proper)
+
+pub held-available : {coefficients ends ranges : List ℕ} {n : ℕ} {q : Problem} → HoldsProblem coefficients ends ranges n q → Every Available (q .offers)
+held-available {q = q} h = every-from Available (q .offers) noOffer (λ i l. offer-available (h .offers i (omega (arith, h .count))))

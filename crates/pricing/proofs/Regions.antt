@@ -1,22 +1,24 @@
 -- Outputs in regions that ascend: where each lies beside a given region, and the choice among them from the vertex of the curve.
 use mathlib.Core.Path.{_≡_, sym}
+use mathlib.Core.Bool.{Bool, true, false}
 use mathlib.Core.List.{List}
 use mathlib.Core.Logic.{_⊎_, inl, inr}
 use Prim.Native.Nat.{ℕ, _+_, _*_, _-_, _≤_, _<_}
+use native.Mathlib.Nat.{mul-le-mul-left}
 use native.Mathlib.Decide.{decLt, decLe, ℕ-discrete}
 use native.Mathlib.Omega.{arith}
 use lib.IntN.{ℤ}
 use lib.ListN.{getD}
-use lib.Signed.{_≤ℤ_, _<ℤ_}
-use Rattle.rules.specs.Choice.{better}
+use lib.Signed.{_<ℤ_, ≤ℤ-refl}
+use Rattle.rules.specs.Choice.{better, earlier}
 use Rattle.fields.proofs.Integers.{up, dn}
-use Rattle.rules.proofs.Economics.Chosen.{Chosen, alike, agreed, single, first, second}
+use Rattle.rules.proofs.Economics.Chosen.{Chosen, alike, agreed, single, lower-better, upper-better, both-tie}
 use Rattle.site.specs.Site.{low, high, Within, Regions}
 use Rattle.pricing.specs.declared.Curve as code
 use Rattle.pricing.specs.Curve.{height, pricedAt}
 use Rattle.pricing.specs.Choosing.{Reaching, Running, Beside, Choosable}
-use Rattle.pricing.proofs.Valley.{last-before, first-behind, beside, at-vertex}
-use Rattle.pricing.proofs.Heights.{valley, priced-running}
+use Rattle.pricing.proofs.Valley.{last-before, first-behind, compared, upper-only, both}
+use Rattle.pricing.proofs.Heights.{valley, flat, priced-running}
 
 module _ {ends : List ℕ} {begin end : ℕ} (r : Regions ends begin end) where
   -- ---- ends of regions rise
@@ -62,7 +64,7 @@ module _ {ends : List ℕ} {begin end : ℕ} (r : Regions ends begin end) where
 
 -- ---- beside the vertex, which region k reaches first
 
-module _ {ends : List ℕ} {begin end : ℕ} {c : code.Curve} {v k : ℕ} (b : Beside ends begin end c v) (q : Reaching ends begin end v k) where
+module _ {ends : List ℕ} {begin end : ℕ} {c : code.Curve} {v k : ℕ} {twin : Bool} (b : Beside ends begin end c v twin) (q : Reaching ends begin end v k) where
   abbrev r : Regions ends begin end
   r = b .running .regions
 
@@ -73,39 +75,62 @@ module _ {ends : List ℕ} {begin end : ℕ} {c : code.Curve} {v k : ℕ} (b : B
       by (yes h) = q .reaches h
       by (no h) = let e : k ≡ end = omega (arith, q .to) in rw e (b .to)
 
-  pub in-region : low ends k ≤ v → Chosen (height c) (Within ends begin end) v
-  in-region h = at-vertex (b .valley) (from-lowest r) (to-highest r) (record { region = k; from = q .from; to = q .to; inside = record { from = h; to = reached } })
+  here : low ends k ≤ v → Within ends begin end v
+  here h = record { region = k; from = q .from; to = q .to; inside = record { from = h; to = reached } }
 
-  -- between two regions
-  module _ (h : v < low ends k) where
-    pub behind-first : begin < k
-    behind-first = by (ℕ-discrete begin k)
+  -- with the output before it in the same region
+  module _ (h : low ends k < v) where
+    one-before : Within ends begin end (v - 1)
+    one-before = record { region = k; from = q .from; to = q .to; inside = record { from = omega arith; to = omega (arith, reached) } }
+
+    split : (p : ℕ) → Within ends begin end p → (p ≤ v - 1) ⊎ (v ≤ p)
+    split p w = by (decLt p v)
       where
-        by : Dec (begin ≡ k) → begin < k
-        by (yes e) = absurd (omega (arith, b .from, rw (← e) at h))
-        by (no n) = omega (arith, q .from)
+        by : Dec (p < v) → (p ≤ v - 1) ⊎ (v ≤ p)
+        by (yes l) = inl (omega arith)
+        by (no l) = inr (omega arith)
 
-    same-high : getD ends (2 * k - 1) 0 ≡ high ends (k - 1)
-    same-high = let e : 2 * k - 1 ≡ 2 * (k - 1) + 1 = omega (arith, behind-first) in rw e
+    pub alone : twin ≡ false → Chosen (height c) (Within ends begin end) v v
+    alone e = upper-only (b .valley) (from-lowest r) (to-highest r) (v - 1) v one-before (here (omega arith)) (omega arith) (omega arith) split (b .falls e)
 
-    next : k - 1 + 1 ≡ k
-    next = omega (arith, behind-first)
+    pub twins : twin ≡ true → Chosen (height c) (Within ends begin end) v (v - 1)
+    twins e = both (b .valley) (from-lowest r) (to-highest r) (v - 1) v one-before (here (omega arith)) (omega arith) (omega arith) split (b .level e)
 
-    pub before-small : getD ends (2 * k - 1) 0 ≤ 10000
-    before-small = omega (arith, same-high, r .limit (k - 1) (omega (arith, behind-first)) (omega (arith, q .to)))
+  -- at the start of a region
+  module _ (h : v ≤ low ends k) where
+    pub lowest-only : k ≡ begin → Chosen (height c) (Within ends begin end) (low ends k) (low ends k)
+    lowest-only e =
+        rw e
+        (first-behind (b .valley) (from-lowest r) (to-highest r) (low ends begin) (lowest r) (omega (arith, rw e at h)) (from-lowest r))
 
-    pub behind-small : low ends k ≤ 10000
-    behind-small = omega (arith, r .order k (q .from) (q .to), r .limit k (q .from) (q .to))
+    module _ (n : k ≡ begin → ⊥) where
+      pub behind-first : begin < k
+      behind-first = by (ℕ-discrete begin k)
+        where
+          by : Dec (begin ≡ k) → begin < k
+          by (yes e) = absurd (n (sym e))
+          by (no m) = omega (arith, q .from)
 
-    pub between-regions : Chosen (height c) (Within ends begin end) (better (height c) (getD ends (2 * k - 1) 0) (low ends k))
-    between-regions =
-        let f = behind-first in
-        let last : Within ends begin end (high ends (k - 1)) = record { region = k - 1; from = omega arith; to = omega (arith, q .to); inside = record { from = r .order (k - 1) (omega arith) (omega (arith, q .to)); to = omega arith } } in
-        let one : Within ends begin end (low ends k) = record { region = k; from = q .from; to = q .to; inside = record { from = omega arith; to = r .order k (q .from) (q .to) } } in
-        let below = q .below (k - 1) (omega arith) (omega arith) in
-        rw same-high
-        (beside (b .valley) (from-lowest r) (to-highest r) (high ends (k - 1)) (low ends k) last one (omega arith) (omega arith) (omega arith)
-        (λ p w. rw next at (parted r (k - 1) (omega arith) (omega (arith, q .to)) p w)))
+      same-high : getD ends (2 * k - 1) 0 ≡ high ends (k - 1)
+      same-high = let e : 2 * k - 1 ≡ 2 * (k - 1) + 1 = omega (arith, behind-first) in rw e
+
+      next : k - 1 + 1 ≡ k
+      next = omega (arith, behind-first)
+
+      pub before-small : getD ends (2 * k - 1) 0 ≤ 10000
+      before-small = omega (arith, same-high, r .limit (k - 1) (omega (arith, behind-first)) (omega (arith, q .to)))
+
+      pub behind-small : low ends k ≤ 10000
+      behind-small = omega (arith, r .order k (q .from) (q .to), r .limit k (q .from) (q .to))
+
+      pub between-regions : Chosen (height c) (Within ends begin end) (better (height c) (getD ends (2 * k - 1) 0) (low ends k)) (earlier (height c) (getD ends (2 * k - 1) 0) (low ends k))
+      between-regions =
+          let f = behind-first in
+          let last : Within ends begin end (high ends (k - 1)) = record { region = k - 1; from = omega arith; to = omega (arith, q .to); inside = record { from = r .order (k - 1) (omega arith) (omega (arith, q .to)); to = omega arith } } in
+          let one : Within ends begin end (low ends k) = record { region = k; from = q .from; to = q .to; inside = record { from = omega arith; to = r .order k (q .from) (q .to) } } in
+          rw same-high
+          (compared (b .valley) (from-lowest r) (to-highest r) (high ends (k - 1)) (low ends k) last one (q .below (k - 1) (omega arith) (omega arith)) h
+          (λ p w. rw next at (parted r (k - 1) (omega arith) (omega (arith, q .to)) p w)))
 
 -- ---- an end of running regions, where the vertex lies past it
 
@@ -113,14 +138,28 @@ module _ {ends : List ℕ} {begin end : ℕ} {c : code.Curve} (u : Running ends 
   abbrev g : Regions ends begin end
   g = u .regions
 
-  pub past-highest : 2 * (c .square * high ends end) + up (c .linear) ≤ c .square + dn (c .linear) → Chosen (height c) (Within ends begin end) (high ends end)
-  past-highest h = last-before (valley c {from = low ends begin} {to = high ends end} (λ _. h) (λ l. absurd (omega arith))) (from-lowest g) (to-highest g) (high ends end) (highest g) (omega arith) (to-highest g)
+  pub past-highest : 2 * (c .square * high ends end) + up (c .linear) < c .square + dn (c .linear) → Chosen (height c) (Within ends begin end) (high ends end) (high ends end)
+  past-highest h =
+      last-before (valley c {from = low ends begin} {to = high ends end} {v = high ends end + 1} (λ q _ _ l. omega (arith, mul-le-mul-left (c .square) l)) (λ l. absurd (omega arith))) (from-lowest g) (to-highest g) (high ends end) (highest g) (omega arith) (to-highest g)
 
-  pub before-lowest : c .square + dn (c .linear) < 2 * (c .square * low ends begin) + up (c .linear) → Chosen (height c) (Within ends begin end) (low ends begin)
-  before-lowest h = first-behind (valley c {from = low ends begin} {to = high ends end} {v = low ends begin} (λ l. absurd (omega arith)) (λ _. omega arith)) (from-lowest g) (to-highest g) (low ends begin) (lowest g) (omega arith) (from-lowest g)
+  pub before-lowest : c .square + dn (c .linear) < 2 * (c .square * low ends begin) + up (c .linear) → Chosen (height c) (Within ends begin end) (low ends begin) (low ends begin)
+  before-lowest h =
+      first-behind (valley c {from = low ends begin} {to = high ends end} {v = low ends begin} (λ q f l _. absurd (omega arith)) (λ _. omega arith)) (from-lowest g) (to-highest g) (low ends begin) (lowest g) (omega arith) (from-lowest g)
+
+  -- all of them, where the curve is flat
+  pub all-tied : c .square ≡ 0 → up (c .linear) ≡ dn (c .linear) → Chosen (height c) (Within ends begin end) (high ends end) (low ends begin)
+  all-tied e f =
+      record {
+        candidate = highest g;
+        tied = lowest g;
+        level = flat c e f (low ends begin) (high ends end);
+        least = λ p w. rw (flat c e f p (high ends end)) (≤ℤ-refl (height c (high ends end)));
+        last = λ p w _. to-highest g p w;
+        first = λ p w _. from-lowest g p w;
+      }
 
   -- what is chosen by the curve is chosen by the priced cost
-  pub running-chosen : {r : ℕ} → Chosen (height c) (Within ends begin end) r → Chosen (pricedAt c) (Within ends begin end) r
+  pub running-chosen : {r l : ℕ} → Chosen (height c) (Within ends begin end) r l → Chosen (pricedAt c) (Within ends begin end) r l
   running-chosen k = agreed (λ p w. sym (priced-running c p (omega (arith, from-lowest g p w, u .runs)))) k
 
 -- ---- standing, and running
@@ -146,7 +185,7 @@ module _ {ends : List ℕ} {begin end : ℕ} {c : code.Curve} (u : Choosable end
     nothing-below : low ends begin ≡ 0
     nothing-below = omega (arith, s .order begin (omega arith) (s .some))
 
-    pub only-stands : {f : ℕ → ℤ} → begin ≡ end → Chosen f (Within ends begin end) 0
+    pub only-stands : {f : ℕ → ℤ} → begin ≡ end → Chosen f (Within ends begin end) 0 0
     only-stands e = alike into back (single 0)
       where
         into : (p : ℕ) → p ≡ 0 → Within ends begin end p
@@ -186,9 +225,12 @@ module _ {ends : List ℕ} {begin end : ℕ} {c : code.Curve} (u : Choosable end
       positive : (p q : ℕ) → p ≡ 0 → Within ends (begin + 1) end q → p < q
       positive p q e w = omega (arith, from-lowest (behind-standing .regions) q w, behind-standing .runs)
 
-      module _ {f : ℕ → ℤ} {p : ℕ} (k : Chosen f (Within ends (begin + 1) end) p) where
-        pub stands-better : f 0 <ℤ f p → Chosen f (Within ends begin end) 0
-        stands-better h = alike into back (first (single 0) k positive h)
+      module _ {f : ℕ → ℤ} {p l′ : ℕ} (k : Chosen f (Within ends (begin + 1) end) p l′) where
+        pub stands-better : f 0 <ℤ f p → Chosen f (Within ends begin end) 0 0
+        stands-better h = alike into back (lower-better (single 0) k positive h)
 
-        pub runs-better : f p ≤ℤ f 0 → Chosen f (Within ends begin end) p
-        runs-better h = alike into back (second (single 0) k positive h)
+        pub runs-better : f p <ℤ f 0 → Chosen f (Within ends begin end) p l′
+        runs-better h = alike into back (upper-better (single 0) k positive h)
+
+        pub stands-or-runs : f p ≡ f 0 → Chosen f (Within ends begin end) p 0
+        stands-or-runs h = alike into back (both-tie (single 0) k positive h)

@@ -1,62 +1,59 @@
--- Of a function that does not rise up to v and rises strictly from v, the least candidate, the later on a tie, is beside v: v itself, the last candidate before it or the first one behind it. Of any candidates, in any number of regions.
+-- Of a function that falls strictly before v and rises strictly from v, the least candidates are beside v: the last one before it, the first one behind it, or both. Of any candidates, in any number of regions.
 use mathlib.Core.Path.{_≡_}
 use mathlib.Core.Logic.{_⊎_, inl, inr}
 use Prim.Native.Nat.{ℕ, _≤_, _<_}
-use native.Mathlib.Decide.{decLt}
+use native.Mathlib.Decide.{ℕ-discrete}
 use native.Mathlib.Omega.{arith}
 use lib.IntN.{ℤ}
-use lib.Signed.{_≤ℤ_}
-use Rattle.rules.specs.Choice.{better}
-use Rattle.fields.proofs.Integers.{ints}
-use Rattle.rules.proofs.Economics.Chosen.{Chosen, alike, either}
+use lib.Signed.{_<ℤ_}
+use Rattle.rules.specs.Choice.{better, earlier}
+use Rattle.rules.proofs.Economics.Chosen.{Chosen, alike, only, either, upper-better, both-tie}
 use Rattle.pricing.specs.Choosing.{Valley}
 
 module _ {f : ℕ → ℤ} {from to v : ℕ} (w : Valley f from to v) {C : ℕ → Type 0} (above : (p : ℕ) → C p → from ≤ p) (below : (p : ℕ) → C p → p ≤ to) where
-  -- the last candidate, not past v
-  pub last-before : (r : ℕ) → C r → r ≤ v → ((p : ℕ) → C p → p ≤ r) → Chosen f C r
-  last-before r c h l = record { candidate = c; least = λ p i. w .falls p r (above p i) (l p i) (below r c) h; last = λ p i e. l p i }
+  -- the last candidate, before v
+  pub last-before : (r : ℕ) → C r → r < v → ((p : ℕ) → C p → p ≤ r) → Chosen f C r r
+  last-before r c h l = only r c (λ p i. by p i (ℕ-discrete p r))
+    where
+      by : (p : ℕ) → C p → Dec (p ≡ r) → (p ≡ r) ⊎ (f r <ℤ f p)
+      by p i (yes e) = inl e
+      by p i (no n) = inr (w .falls p r (above p i) (omega (arith, l p i)) (below r c) h)
 
   -- the first candidate, not before v
-  pub first-behind : (r : ℕ) → C r → v ≤ r → ((p : ℕ) → C p → r ≤ p) → Chosen f C r
-  first-behind r c h l = record { candidate = c; least = λ p i. least p i (decLt r p); last = λ p i e. last p i e (decLt r p) }
+  pub first-behind : (r : ℕ) → C r → v ≤ r → ((p : ℕ) → C p → r ≤ p) → Chosen f C r r
+  first-behind r c h l = only r c (λ p i. by p i (ℕ-discrete p r))
     where
-      least : (p : ℕ) → C p → Dec (r < p) → f r ≤ℤ f p
-      least p i (yes k) = let m = w .rises r p (above r c) k (below p i) h in omega (arith, ints)
-      least p i (no k) = let e : p ≡ r = omega (arith, l p i) in rw e (omega (arith, ints))
+      by : (p : ℕ) → C p → Dec (p ≡ r) → (p ≡ r) ⊎ (f r <ℤ f p)
+      by p i (yes e) = inl e
+      by p i (no n) = inr (w .rises r p (above r c) (omega (arith, l p i)) (below p i) h)
 
-      last : (p : ℕ) → C p → f p ≡ f r → Dec (r < p) → p ≤ r
-      last p i e (yes k) = let m = w .rises r p (above r c) k (below p i) h in absurd (omega (arith, ints))
-      last p i e (no k) = omega arith
+-- the last candidate before v and the first one behind it
+module _ {f : ℕ → ℤ} {from to v : ℕ} (w : Valley f from to v) {C : ℕ → Type 0} (above : (p : ℕ) → C p → from ≤ p) (below : (p : ℕ) → C p → p ≤ to) (r s : ℕ) (c : C r) (d : C s) (h : r < v) (k : v ≤ s) (split : (p : ℕ) → C p → (p ≤ r) ⊎ (s ≤ p)) where
+  lower : Chosen f (λ p. C p × (p ≤ r)) r r
+  lower = last-before w (λ p i. above p (i .0)) (λ p i. below p (i .0)) r (c, omega arith) h (λ p i. i .1)
 
-module _ {f : ℕ → ℤ} {from to v : ℕ} (w : Valley f from to v) {C : ℕ → Type 0} (above : (p : ℕ) → C p → from ≤ p) (below : (p : ℕ) → C p → p ≤ to) where
-  -- the last one before v and the first one behind it
-  pub beside : (r s : ℕ) → C r → C s → r ≤ v → v ≤ s → r < s → ((p : ℕ) → C p → (p ≤ r) ⊎ (s ≤ p)) → Chosen f C (better f r s)
-  beside r s c d h k l split =
-      alike into back
-      (either
-      (last-before w {C = λ p. C p × (p ≤ r)} (λ p i. above p (i .0)) (λ p i. below p (i .0)) r (c, omega arith) h (λ p i. i .1))
-      (first-behind w {C = λ p. C p × (s ≤ p)} (λ p i. above p (i .0)) (λ p i. below p (i .0)) s (d, omega arith) k (λ p i. i .1))
-      (λ p q i j. omega (arith, i .1, j .1)))
+  upper : Chosen f (λ p. C p × (s ≤ p)) s s
+  upper = first-behind w (λ p i. above p (i .0)) (λ p i. below p (i .0)) s (d, omega arith) k (λ p i. i .1)
+
+  apart : (p q : ℕ) → C p × (p ≤ r) → C q × (s ≤ q) → p < q
+  apart p q i j = omega (arith, i .1, j .1)
+
+  into : (p : ℕ) → (C p × (p ≤ r)) ⊎ (C p × (s ≤ p)) → C p
+  into p (inl i) = i .0
+  into p (inr i) = i .0
+
+  back : (p : ℕ) → C p → (C p × (p ≤ r)) ⊎ (C p × (s ≤ p))
+  back p i = by (split p i)
     where
-      into : (p : ℕ) → (C p × (p ≤ r)) ⊎ (C p × (s ≤ p)) → C p
-      into p (inl i) = i .0
-      into p (inr i) = i .0
+      by : (p ≤ r) ⊎ (s ≤ p) → (C p × (p ≤ r)) ⊎ (C p × (s ≤ p))
+      by (inl e) = inl (i, e)
+      by (inr e) = inr (i, e)
 
-      back : (p : ℕ) → C p → (C p × (p ≤ r)) ⊎ (C p × (s ≤ p))
-      back p i = by (split p i)
-        where
-          by : (p ≤ r) ⊎ (s ≤ p) → (C p × (p ≤ r)) ⊎ (C p × (s ≤ p))
-          by (inl e) = inl (i, e)
-          by (inr e) = inr (i, e)
+  pub compared : Chosen f C (better f r s) (earlier f r s)
+  compared = alike into back (either lower upper apart)
 
-  -- v itself
-  pub at-vertex : C v → Chosen f C v
-  at-vertex c = record { candidate = c; least = λ p i. least p i (decLt v p); last = λ p i e. last p i e (decLt v p) }
-    where
-      least : (p : ℕ) → C p → Dec (v < p) → f v ≤ℤ f p
-      least p i (yes k) = let m = w .rises v p (above v c) k (below p i) (omega arith) in omega (arith, ints)
-      least p i (no k) = w .falls p v (above p i) (omega arith) (below v c) (omega arith)
+  pub upper-only : f s <ℤ f r → Chosen f C s s
+  upper-only l = alike into back (upper-better lower upper apart l)
 
-      last : (p : ℕ) → C p → f p ≡ f v → Dec (v < p) → p ≤ v
-      last p i e (yes k) = let m = w .rises v p (above v c) k (below p i) (omega arith) in absurd (omega (arith, ints))
-      last p i e (no k) = omega arith
+  pub both : f s ≡ f r → Chosen f C s r
+  both e = alike into back (both-tie lower upper apart e)

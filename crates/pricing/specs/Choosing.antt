@@ -1,15 +1,17 @@
 -- What the functions on the way to a unit's choice ask and answer.
-use Prim.Native.Nat.{ℕ, _≤_, _<_}
+use Prim.Native.Nat.{ℕ, _-_, _≤_, _<_}
+use mathlib.Core.Bool.{Bool, true, false}
 use mathlib.Core.List.{List}
+use mathlib.Core.Path.{_≡_}
 use lib.IntN.{ℤ}
-use lib.Signed.{_≤ℤ_, _<ℤ_}
+use lib.Signed.{_<ℤ_}
 use Rattle.site.specs.Site.{low, high, Regions}
 use Rattle.pricing.specs.Curve.{height, InRange}
 use Rattle.pricing.specs.declared.Curve.{Curve}
 
--- on from..to the function f does not rise up to v and rises strictly from v
+-- on from..to the function f falls strictly before v and rises strictly from v; of the step into v nothing is said
 pub record Valley (f : ℕ → ℤ) (from to v : ℕ) : Type 0 where
-  pub falls : (p q : ℕ) → from ≤ p → p ≤ q → q ≤ to → q ≤ v → f q ≤ℤ f p
+  pub falls : (p q : ℕ) → from ≤ p → p < q → q ≤ to → q < v → f q <ℤ f p
   pub rises : (p q : ℕ) → from ≤ p → p < q → q ≤ to → v ≤ p → f p <ℤ f q
 
 -- regions first to last that the arrays have
@@ -31,12 +33,14 @@ pub record Running (ends : List ℕ) (first last : ℕ) (c : Curve) : Type 0 whe
   pub runs : 1 ≤ low ends first
   pub curve : InRange c
 
--- with the vertex between them
-pub record Beside (ends : List ℕ) (first last : ℕ) (c : Curve) (v : ℕ) : Type 0 where
+-- with the vertex between them, and whether the step into it is level
+pub record Beside (ends : List ℕ) (first last : ℕ) (c : Curve) (v : ℕ) (twin : Bool) : Type 0 where
   pub running : Running ends first last c
   pub from : low ends first ≤ v
   pub to : v ≤ high ends last
   pub valley : Valley (height c) (low ends first) (high ends last) v
+  pub level : twin ≡ true → height c v ≡ height c (v - 1)
+  pub falls : twin ≡ false → height c v <ℤ height c (v - 1)
 
 pub record Choosable (ends : List ℕ) (first last : ℕ) (c : Curve) : Type 0 where
   pub few : last < 192

@@ -4,8 +4,10 @@ use mathlib.Core.Path.{_≡_}
 use mathlib.Core.List.{List, map}
 use lib.ListN.{length, take}
 use Rattle.rules.specs.Problem.{totalCost, totalNet, Offer, Problem, unitsOf}
+use Rattle.rules.specs.Choice.{choice, leastTied}
 use Rattle.site.specs.Site.{HoldsProblem}
 use Rattle.pricing.specs.declared.Sums.{Sums}
+use Rattle.pricing.specs.declared.Evaluated.{Evaluated}
 
 -- the arrays hold some problem
 pub record Held (coefficients ends ranges : List ℕ) (n : ℕ) : Type 0 where
@@ -22,6 +24,10 @@ pub record HoldsOutputs (q : Problem) (ps outputs : List ℕ) (s : Sums) : Type 
   pub cost : s .cost ≡ totalCost (unitsOf q) ps
   pub net : s .net ≡ totalNet (unitsOf q) ps
 
+-- the array has of each unit what is picked of its offer
+pub record HoldsEach (pick : Offer → ℕ) (coefficients ends ranges : List ℕ) (n : ℕ) (array : List ℕ) : Type 0 where
+  pub places : (q : Problem) → HoldsProblem coefficients ends ranges n q → take n array ≡ map pick (q .offers)
+
 -- cost and net of n units in range
 pub record Sized (n : ℕ) (s : Sums) : Type 0 where
   pub cost : s .cost ≤ 201000000000 * n
@@ -31,6 +37,12 @@ pub record Sized (n : ℕ) (s : Sums) : Type 0 where
 pub record Allocates (pick : Offer → ℕ) (coefficients ends ranges : List ℕ) (n : ℕ) (outputs : List ℕ) (s : Sums) : Type 0 where
   pub sized : Sized n s
   pub held : (q : Problem) → HoldsProblem coefficients ends ranges n q → HoldsOutputs q (map pick (q .offers)) outputs s
+
+-- an evaluation of m: the choices, the least tied outputs, and whether they differ anywhere
+pub record Evaluates (m : ℕ) (coefficients ends ranges : List ℕ) (n : ℕ) (outputs least : List ℕ) (r : Evaluated) : Type 0 where
+  pub allocates : Allocates (choice m) coefficients ends ranges n outputs (record { cost = r .cost; net = r .net })
+  pub tied : HoldsEach (leastTied m) coefficients ends ranges n least
+  pub alone : r .spread ≡ 0 → take n least ≡ take n outputs
 
 -- a dual value in range
 pub record Dualable (s : Sums) (t m : ℕ) : Type 0 where

@@ -1,12 +1,14 @@
-// A unit's choice: of its permitted outputs the one of least priced cost, the greatest on a tie. On running outputs the priced
-// cost falls until its vertex and rises from there, so that the choice lies beside the vertex; standing is compared apart.
+// A unit's choice and its least tied output: of its permitted outputs of least priced cost the greatest and the least. On running
+// outputs the priced cost falls until its vertex and rises from there, so that both lie beside the vertex; standing is compared apart.
+ghost use mathlib.Core.Bool.{Bool};
 ghost use mathlib.Core.Path.{_≡_};
 ghost use Prim.Native.Nat.{_+_, _≤_, _<_};
-ghost use Rattle.rules.specs.Choice.{better as later·of};
+ghost use Rattle.rules.specs.Choice.{better as later·of, earlier as earlier·of};
 ghost use Rattle.rules.proofs.Economics.Chosen.{Chosen};
 ghost use Rattle.site.specs.Site.{high, Within};
 ghost use Rattle.pricing.specs.Curve.{height, pricedAt, InRange};
 ghost use Rattle.pricing.specs.Choosing.{Places, Reaching, Running, Beside, Choosable};
+use crate::Choice;
 use crate::Curve;
 use crate::units::priced_cost;
 
@@ -17,15 +19,33 @@ fn wide(x: u16) -> u64
     x as u64
 }
 
-// The better of two outputs, the later on a tie.
-fn better(c: Curve, below: u16, above: u16) -> u16
-    requires { ⌜ InRange c × (below ≤ 10000) × (above ≤ 10000) ⌝ }
-    ensures { λ r. ⌜ r ≡ later·of (height c) below above ⌝ }
+// One output that ties with no other.
+fn only(p: u16) -> Choice
+    ensures { λ r. ⌜ (r .greatest ≡ p) × (r .least ≡ p) ⌝ }
 {
-    if priced_cost(c, above) <= priced_cost(c, below) {
-        return above;
+    Choice {
+        greatest: p,
+        least: p,
     }
-    below
+}
+
+// The better of two outputs, or both.
+fn better(c: Curve, below: u16, above: u16) -> Choice
+    requires { ⌜ InRange c × (below ≤ 10000) × (above ≤ 10000) ⌝ }
+    ensures { λ r. ⌜ (r .greatest ≡ later·of (height c) below above) × (r .least ≡ earlier·of (height c) below above) ⌝ }
+{
+    let x = priced_cost(c, below);
+    let y = priced_cost(c, above);
+    if x < y {
+        return only(below);
+    }
+    if y < x {
+        return only(above);
+    }
+    Choice {
+        greatest: above,
+        least: below,
+    }
 }
 
 // The first of the regions `first`..=`last` whose high reaches `v`, or the last.
@@ -43,36 +63,67 @@ fn region_reaching(ends: &[u16; 384], first: usize, last: usize, v: u16) -> usiz
     k
 }
 
-// The choice beside the vertex `v`, which lies from the lowest to the highest running output.
-fn choose_beside(ends: &[u16; 384], first: usize, last: usize, c: Curve, v: u16) -> u16
-    requires { ⌜ Beside (now ends) first last c v ⌝ }
-    ensures { λ r. ⌜ Chosen (height c) (Within (now (ends .entry)) first last) r ⌝ }
+// The choice beside the vertex `v`, which lies from the lowest to the highest running output; `twin` if the output below `v`
+// costs the same.
+fn choose_beside(
+    ends: &[u16; 384],
+    first: usize,
+    last: usize,
+    c: Curve,
+    v: u16,
+    twin: bool,
+) -> Choice
+    requires { ⌜ Beside (now ends) first last c v twin ⌝ }
+    ensures { λ r. ⌜ Chosen (height c) (Within (now (ends .entry)) first last) (r .greatest) (r .least) ⌝ }
 {
     let k = region_reaching(ends, first, last, v);
     let low = ends[2 * k];
-    if low <= v {
-        return v;
+    if low < v {
+        if twin {
+            return Choice {
+                greatest: v,
+                least: v - 1,
+            };
+        }
+        return only(v);
+    }
+    if k == first {
+        return only(low);
     }
     better(c, ends[2 * k - 1], low)
 }
 
-// The choice among running outputs: an end of them, unless the vertex lies between.
-fn choose_running(ends: &[u16; 384], first: usize, last: usize, c: Curve) -> u16
+// The choice among running outputs: an end of them, unless the vertex lies between; all of them where the priced cost is flat.
+fn choose_running(ends: &[u16; 384], first: usize, last: usize, c: Curve) -> Choice
     requires { ⌜ Running (now ends) first last c ⌝ }
-    ensures { λ r. ⌜ Chosen (height c) (Within (now (ends .entry)) first last) r ⌝ }
+    ensures { λ r. ⌜ Chosen (height c) (Within (now (ends .entry)) first last) (r .greatest) (r .least) ⌝ }
 {
     let Curve { square, linear, .. } = c;
     let lowest = ends[2 * first];
     let highest = ends[2 * last + 1];
     let over = square as i64 - linear;
     let by = 2 * square;
-    if over >= (by * wide(highest)) as i64 {
-        return highest;
+    if over > (by * wide(highest)) as i64 {
+        return only(highest);
     }
     if over < (by * wide(lowest)) as i64 {
-        return lowest;
+        return only(lowest);
     }
-    choose_beside(ends, first, last, c, (over / by as i64) as u16)
+    if by == 0 {
+        return Choice {
+            greatest: highest,
+            least: lowest,
+        };
+    }
+    let twice = by as i64;
+    choose_beside(
+        ends,
+        first,
+        last,
+        c,
+        (over / twice) as u16,
+        over % twice == 0,
+    )
 }
 
 // The first running region: the one after 0..0, if `first` is that; one past the last if there is no other.
@@ -87,20 +138,27 @@ fn first_running(ends: &[u16; 384], first: usize) -> usize
 }
 
 // The choice among the regions `first`..=`last`; standing costs nothing.
-pub fn choose(ends: &[u16; 384], first: usize, last: usize, c: Curve) -> u16
+pub fn choose(ends: &[u16; 384], first: usize, last: usize, c: Curve) -> Choice
     requires { ⌜ Choosable (now ends) first last c ⌝ }
-    ensures { λ r. ⌜ Chosen (pricedAt c) (Within (now (ends .entry)) first last) r ⌝ }
+    ensures { λ r. ⌜ Chosen (pricedAt c) (Within (now (ends .entry)) first last) (r .greatest) (r .least) ⌝ }
 {
     let from = first_running(ends, first);
     if from > last {
-        return 0;
+        return only(0);
     }
     let running = choose_running(ends, from, last, c);
     if from == first {
         return running;
     }
-    if priced_cost(c, running) > 0 {
-        return 0;
+    let priced = priced_cost(c, running.greatest);
+    if priced > 0 {
+        return only(0);
+    }
+    if priced == 0 {
+        return Choice {
+            greatest: running.greatest,
+            least: 0,
+        };
     }
     running
 }

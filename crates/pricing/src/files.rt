@@ -2,6 +2,7 @@
 ghost use mathlib.Core.Path.{_≡_};
 ghost use Rattle.rules.specs.Calls.{priced};
 ghost use Rattle.pricing.specs.Step1.{FindsFirst};
+use crate::Evaluated;
 use crate::FirstBest;
 use crate::Sums;
 use crate::totals::dual_of;
@@ -64,10 +65,19 @@ pub fn price(file: &[u8], m: u32) -> Priced
         FirstBest::Found { count, target, .. } => {
             let x = m as u64;
             let mut choices = [0u16; 32];
-            let s = evaluate(&coefficients, &ends, &ranges, count, x, &mut choices);
+            let mut least = [0u16; 32];
+            let Evaluated { cost, net, .. } = evaluate(
+                &coefficients,
+                &ends,
+                &ranges,
+                count,
+                x,
+                &mut choices,
+                &mut least,
+            );
             Priced::Valued {
-                dual: dual_of(s, target, x),
-                covers: target <= s.net,
+                dual: dual_of(Sums { cost, net }, target, x),
+                covers: target <= net,
             }
         }
     }

@@ -22,10 +22,24 @@ pub struct Curve {
     pub constant: u64,
 }
 
+// A unit's outputs of least priced cost: the greatest, which is its choice, and the least, to which it may be lowered.
+pub struct Choice {
+    pub greatest: u16,
+    pub least: u16,
+}
+
 // Cost and net of outputs together.
 pub struct Sums {
     pub cost: u64,
     pub net: u64,
+}
+
+// What an evaluation gives besides its arrays: cost and net of the choices together, and by how many steps in all the choices lie
+// above the least tied outputs.
+pub struct Evaluated {
+    pub cost: u64,
+    pub net: u64,
+    pub spread: u64,
 }
 
 // What checking, decoding and step 1 give besides the arrays: the number of units, the net that covers the demand, and the cost

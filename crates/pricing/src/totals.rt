@@ -1,20 +1,20 @@
-// All units of a decoded site at one multiplier: their choices with cost and net together, the dual value and its floor; and their
-// greatest outputs.
+// All units of a decoded site at one multiplier: their choices with cost and net together and their least tied outputs, the dual
+// value and its floor; and their greatest outputs.
 ghost use mathlib.Core.Path.{_≡_};
 ghost use Prim.Native.Nat.{_+_, _*_, _≤_};
 ghost use lib.ListN.{length};
 ghost use Rattle.rules.specs.Lists.{greatest};
 ghost use Rattle.rules.specs.Numbers.{dividedUp};
-ghost use Rattle.rules.specs.Choice.{choice};
 ghost use Rattle.fields.proofs.Integers.{Is};
-ghost use Rattle.pricing.specs.Totals.{Held, Evaluable, Allocates, Dualable};
+ghost use Rattle.pricing.specs.Totals.{Held, Evaluable, Evaluates, Allocates, Dualable};
+use crate::Evaluated;
 use crate::Sums;
 use crate::choosing::choose;
 use crate::units::cost_of;
 use crate::units::curve_of;
 use crate::units::net_of;
 
-// The choices of the first `n` units at multiplier `m`, written into `outputs`.
+// The choices of the first `n` units at multiplier `m`, written into `outputs`, and their least tied outputs, into `least`.
 pub fn evaluate(
     coefficients: &[u64; 160],
     ends: &[u16; 384],
@@ -22,23 +22,29 @@ pub fn evaluate(
     n: usize,
     m: u64,
     outputs: &mut [u16],
-) -> Sums
-    requires { ⌜ Evaluable (now coefficients) (now ends) (now ranges) n m × (n ≤ length (now outputs)) ⌝ }
-    ensures { λ r. ⌜ Allocates (choice m) (now (coefficients .entry)) (now (ends .entry)) (now (ranges .entry)) n (now (outputs .exit)) r ⌝ }
+    least: &mut [u16],
+) -> Evaluated
+    requires { ⌜ Evaluable (now coefficients) (now ends) (now ranges) n m × (n ≤ length (now outputs)) × (n ≤ length (now least)) ⌝ }
+    ensures { λ r. ⌜ Evaluates m (now (coefficients .entry)) (now (ends .entry)) (now (ranges .entry)) n (now (outputs .exit)) (now (least .exit)) r ⌝ }
 {
     let mut cost: u64 = 0;
     let mut net: u64 = 0;
+    let mut spread: u64 = 0;
     let mut i = 0;
     while i < n {
         let first = ranges[2 * i] as usize;
         let last = ranges[2 * i + 1] as usize;
-        let p = choose(ends, first, last, curve_of(coefficients, i, m));
+        let c = choose(ends, first, last, curve_of(coefficients, i, m));
+        let p = c.greatest;
+        let l = c.least;
         outputs[i] = p;
+        least[i] = l;
+        spread += (p - l) as u64;
         cost += cost_of(coefficients, i, p);
         net += net_of(coefficients, i, p);
         i += 1;
     }
-    Sums { cost, net }
+    Evaluated { cost, net, spread }
 }
 
 // The greatest outputs of the first `n` units, written into `outputs`.

@@ -9,5 +9,6 @@ pub mod Duality
 pub mod Search
 pub mod Steps
 pub mod Allocations
+pub mod Lowering
 pub mod Solvable
 pub mod Solution

@@ -7,5 +7,6 @@ pub mod Economics
 pub mod Obeyed
 pub mod Rising
 pub mod Demand3
+pub mod Saving
 pub mod Replied
 pub mod Lengths

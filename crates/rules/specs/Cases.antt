@@ -11,7 +11,7 @@ use Rattle.rules.specs.Unit.{Unit, zones, permitted, cost, linearFactor,
 use Rattle.rules.specs.Layout.{edgeOfBody, unitOfBody, bodyOfUnit, caseOf, contentsFrom, bodiesOf, fileOf, unitOfRow, rowOfUnit, unitsOfRows, rowsOfUnits}
 use Rattle.rules.specs.Refusal.{editionVerdict, headVerdict, contentsVerdict, zonesAscend, unitVerdict, bodyVerdict, fileVerdict, numberOf, numberOfVerdict}
 use Rattle.rules.specs.Problem.{allocation, totalCost, totalNet, Offer, offer, problemOf}
-use Rattle.rules.specs.Choice.{pricedCost, leastFrom, choiceOf, choices, selected, dualValue, floor}
+use Rattle.rules.specs.Choice.{pricedCost, preferredFrom, preferred, choices, lowered, selected, dualValue, floor}
 use Rattle.rules.specs.Bisection.{Found, Reply, step4, step3, search, greatestOutputs, solvable, found, replyOf, solve}
 use Rattle.rules.specs.Calls.{replyBytes, caseVerdict, dispatchVerdict, dispatchEnds, dispatched, priceVerdict, priceEnds, priced, packVerdict, packEnds, packed, unpackVerdict, unpackEnds, unpacked, panelDispatched, panelPriced, panelPacked, panelUnpacked}
 use Rattle.rules.specs.declared.Dispatched.{Dispatched}
@@ -84,7 +84,7 @@ ofSolution r = solves (r .outputs) (r .cost) (r .gap) (r .evaluations) (r .surpl
 
 -- what the rules give
 unfoldable pub answer : Call → Answer
-unfolding numberAfter signed bytes bytesOfEach zones edgeOfBody unitOfBody bodyOfUnit caseOf contentsFrom bodiesOf fileOf editionVerdict headVerdict contentsVerdict zonesAscend unitVerdict bodyVerdict fileVerdict permitted cost linearFactor net totalCost totalNet offer problemOf pricedCost leastFrom choiceOf total choices selected dualValue dividedUp floor greatestAt step4 step3 search greatestOutputs solvable found natural replyOf solve replyBytes caseVerdict dispatchVerdict dispatchEnds dispatched priceVerdict priceEnds priced unitOfRow unitsOfRows packVerdict packEnds packed rowOfUnit rowsOfUnits unpackVerdict unpackEnds unpacked panelDispatched panelPriced panelPacked panelUnpacked allocation
+unfolding numberAfter signed bytes bytesOfEach zones edgeOfBody unitOfBody bodyOfUnit caseOf contentsFrom bodiesOf fileOf editionVerdict headVerdict contentsVerdict zonesAscend unitVerdict bodyVerdict fileVerdict permitted cost linearFactor net totalCost totalNet offer problemOf pricedCost preferredFrom preferred total choices lowered selected dualValue dividedUp floor greatestAt step4 step3 search greatestOutputs solvable found natural replyOf solve replyBytes caseVerdict dispatchVerdict dispatchEnds dispatched priceVerdict priceEnds priced unitOfRow unitsOfRows packVerdict packEnds packed rowOfUnit rowsOfUnits unpackVerdict unpackEnds unpacked panelDispatched panelPriced panelPacked panelUnpacked allocation
 answer (dispatch file) = let r = dispatched file buffer in ofDispatch (r .answer) (r .reply)
 answer (price file m) = ofPricing (priced file m)
 answer (pack d rows) = let r = packed d rows buffer in ofPacking (r .answer) (r .file)

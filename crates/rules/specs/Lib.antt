@@ -10,8 +10,10 @@ pub mod Calls
 pub mod Undoing
 pub mod Losses
 pub mod Promise
+pub mod Lowering
 pub mod Cases
 pub mod CaseFiles
 pub mod Table
 pub mod TableOfRefusals
 pub mod TableOfEditions
+pub mod TableOfLowering

@@ -19,7 +19,7 @@ table =
     ∷ record { call = dispatch (fileOf 10 (U ∷ [])); result = reply (10 ∷ []) 200000 0 2 0 }
     ∷ record { call = dispatch (fileOf 11 (U ∷ [])); result = refuses 11 buffer }
     ∷ record { call = dispatch (fileOf 10 (lossy ∷ [])); result = refuses 11 buffer }
-    ∷ record { call = dispatch (fileOf 5 (U ∷ U ∷ [])); result = reply (3 ∷ 3 ∷ []) 78000 15000 18 100000000 }
+    ∷ record { call = dispatch (fileOf 5 (U ∷ U ∷ [])); result = reply (2 ∷ 3 ∷ []) 63000 0 18 0 }
     ∷ record { call = dispatch (fileOf 0 (marked 1 5 1 1 ∷ [])); result = reply (4 ∷ []) 56000 0 1 400000000 }
     ∷ record { call = dispatch (fileOf 0 (marked 1 5 0 0 ∷ [])); result = refuses 11 buffer }
     ∷ record { call = dispatch (fileOf 5 (zoned 2 7 ∷ [])); result = refuses 9 buffer }
@@ -30,10 +30,8 @@ table =
 
 unfoldable pub further : List Row
 further =
-    -- the least output on a tie
-    record { call = dispatch (fileOf 0 (priced-at 0 0 ∷ [])); result = reply (10 ∷ []) 0 0 1 1000000000 }
     -- a floor rounded down
-    ∷ record { call = dispatch (fileOf 5 (lossy ∷ [])); result = reply (7 ∷ []) 119000 41999 18 199999951 }
+    record { call = dispatch (fileOf 5 (lossy ∷ [])); result = reply (7 ∷ []) 119000 41999 18 199999951 }
     -- a floor rounded to the nearest, or up from 2 above a whole quotient: the dual value of 21 is 1 above one
     ∷ record { call = dispatch (fileOf 5 (unit 9665 1000 1069 0 0 0 0 4 7 ∷ [])); result = reply (7 ∷ []) 116655 41988 18 199947619 }
     -- only the last floor

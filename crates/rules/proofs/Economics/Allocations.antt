@@ -13,7 +13,7 @@ use Rattle.rules.specs.Lists.{greatest}
 use Rattle.rules.specs.Numbers.{total}
 use Rattle.rules.specs.Unit.{cost, net}
 use Rattle.rules.specs.Problem.{totalCost, totalNet, Offer, Problem, unitsOf, target}
-use Rattle.rules.specs.Choice.{pricedCost, choice, leastPricedCost, choices, selected, dualValue}
+use Rattle.rules.specs.Choice.{pricedCost, choice, leastTied, leastPricedCost, choices, dualValue}
 use Rattle.rules.proofs.Lists.{Every, Pairwise, pairwise-more, pairwise-map}
 use Rattle.fields.proofs.Integers.{ints, Is, is-pos, is-add}
 use Rattle.rules.proofs.Sound.{Sound}
@@ -44,11 +44,11 @@ LeastPriced m o p = pricedCost m (o .unit) p ≡ leastPricedCost m o
 abbrev pub Tied : ℕ → List Offer → List ℕ → Type 0
 Tied m = Pairwise (λ o p. Among p (o .outputs) × LeastPriced m o p)
 
--- a unit's choice is offered, of least priced cost, and the greatest on a tie
-pub chosen : (m : ℕ) {o : Offer} → Available o → Chosen (pricedCost m (o .unit)) (λ p. Among p (o .outputs)) (choice m o)
+-- a unit's choice and its least tied output are offered, of least priced cost, and the greatest and the least on a tie
+pub chosen : (m : ℕ) {o : Offer} → Available o → Chosen (pricedCost m (o .unit)) (λ p. Among p (o .outputs)) (choice m o) (leastTied m o)
 chosen m {o} g = scanned (pricedCost m (o .unit)) (o .outputs) (g .proper .ascends) (g .some)
 
-tied-given : (m : ℕ) (os : List Offer) (xs : List ℕ) → Tied m os xs → Given os xs
+pub tied-given : (m : ℕ) (os : List Offer) (xs : List ℕ) → Tied m os xs → Given os xs
 tied-given m = pairwise-more (λ o p. Among p (o .outputs) × LeastPriced m o p) (λ o p. Among p (o .outputs)) (λ o p t. t .0)
 
 tied-least : (m : ℕ) (os : List Offer) (xs ys : List ℕ) → Every Available os → Tied m os xs → Given os ys → 100000 * totalCost (map (λ o. o .unit) os) xs + m * totalNet (map (λ o. o .unit) os) ys ≤ 100000 * totalCost (map (λ o. o .unit) os) ys + m * totalNet (map (λ o. o .unit) os) xs
@@ -99,10 +99,10 @@ relaxation q g x t =
       value-is = λ m. dual-by m q (x m) (pairwise-more (λ o p. Among p (o .outputs) × LeastPriced m o p) (LeastPriced m) (λ o p t. t .1) (q .offers) (x m) (t m));
     }
 
--- what an evaluation takes is tied: the choices are
-pub selected-tied : (q : Problem) → Every Available (q .offers) → (m : ℕ) → Tied m (q .offers) (selected m q)
-unfolding selected choices
-selected-tied q g m = pairwise-map Available (λ o p. Among p (o .outputs) × LeastPriced m o p) (choice m) (λ o a. (chosen m a .candidate, refl)) (q .offers) g
+-- the choices are
+pub choices-tied : (m : ℕ) (q : Problem) → Every Available (q .offers) → Tied m (q .offers) (choices m q)
+unfolding choices
+choices-tied m q g = pairwise-map Available (λ o p. Among p (o .outputs) × LeastPriced m o p) (choice m) (λ o a. (chosen m a .candidate, refl)) (q .offers) g
 
 -- ---- the greatest outputs
 

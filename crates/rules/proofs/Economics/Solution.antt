@@ -17,7 +17,8 @@ use Rattle.rules.specs.Promise.{Permitted, Covering, GreatestFloor, cost
 use Rattle.rules.proofs.Lists.{Every}
 use Rattle.fields.proofs.Integers.{up, dn, is-pos, is-minus, up-is, same, itself, ints}
 use Rattle.rules.proofs.Sound.{Sound}
-use Rattle.rules.proofs.Economics.Allocations.{Given, Proper, relaxation, selected-tied, greatest-given, greatest-net}
+use Rattle.rules.proofs.Economics.Allocations.{Given, Proper, relaxation, greatest-given, greatest-net}
+use Rattle.rules.proofs.Economics.Lowering.{selected-tied}
 use Rattle.rules.proofs.Economics.Quantities.{natural-up}
 use Rattle.rules.proofs.Economics.Search.{Searched, searched, below-first}
 use Rattle.rules.proofs.Economics.Solvable.{units-of-problem, given-allocation, allocation-given, solvable-available, solvable-covers, case-proper}

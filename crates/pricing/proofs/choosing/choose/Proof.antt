@@ -8,13 +8,14 @@ use mir.Val.{toZ, ofZ}
 use mir.Facts.{toZ-ofZ}
 use denote.Ref.{now}
 use borrow.Author.Needs.{needs}
-use Rattle.fields.proofs.Integers.{Is, itself, is-pos, is-same, when-lt, when-ge, at-most, under}
+use Rattle.fields.proofs.Integers.{Is, itself, is-pos, is-same, same, when-lt, when-ge, under}
 use Rattle.rules.proofs.Economics.Chosen.{Chosen}
 use Rattle.site.specs.Site.{high, Within}
 use Rattle.pricing.specs.Curve.{pricedAt}
 use Rattle.pricing.specs.Choosing.{Running}
+use Rattle.pricing.proofs.Signed.{zero-bits, other-bits}
 use Rattle.pricing.proofs.Heights.{priced-running, priced-standing}
-use Rattle.pricing.proofs.Regions.{small, from-lowest, runs, running-chosen, only-stands, behind-standing, stands-better, runs-better}
+use Rattle.pricing.proofs.Regions.{small, from-lowest, runs, running-chosen, only-stands, behind-standing, stands-better, runs-better, stands-or-runs}
 use Rattle.pricing.proofs.choosing.choose.Statement.{statement}
 use Rattle.pricing.proofs.choosing.choose.Tie as tie
 
@@ -25,13 +26,13 @@ first-running-requires c κs = omega (arith, c .pre .few, c .pre .regions .some)
 stands? : (s : tie.Start) → Dec (high (now (s .args .ends)) (s .args .first) ≡ 0)
 stands? s = ℕ-discrete (high (now (s .args .ends)) (s .args .first)) 0
 
+only-requires : tie.Need-only-requires
+only-requires c κs = search needs
+
 returns : tie.Need-returns
-returns c =
-    let f = c .before in
-    let s = f .before in
-    by c (stands? s)
+returns c = rw (c .only .ensures .0, c .only .ensures .1) (by (c .before) (stands? (c .before .before .before)))
   where
-    by : (c : tie.Then1) → let s = c .before .before in Dec (high (now (s .args .ends)) (s .args .first) ≡ 0) → Chosen (pricedAt (s .args .c)) (Within (now (s .args .ends)) (s .args .first) (s .args .last)) 0
+    by : (c : tie.Then1) → let s = c .before .before in Dec (high (now (s .args .ends)) (s .args .first) ≡ 0) → Chosen (pricedAt (s .args .c)) (Within (now (s .args .ends)) (s .args .first) (s .args .last)) 0 0
     by c (yes z) = only-stands (c .before .before .pre) z (omega (arith, c .before .first-running .ensures .0 z, c .before .before .pre .regions .some))
     by c (no n) = absurd (omega (arith, c .before .first-running .ensures .1 n, c .before .before .pre .regions .some))
 
@@ -51,10 +52,10 @@ choose-running-requires : tie.Need-choose-running-requires
 choose-running-requires c κs = running c
 
 -- the choice among running outputs, by priced cost, where they begin at region n
-chosen-from : (c : tie.After-choose-running) → let s = c .before .before .before in (n : ℕ) → c .before .before .first-running .result ≡ n → Chosen (pricedAt (s .args .c)) (Within (now (s .args .ends)) n (s .args .last)) (c .choose-running .result)
+chosen-from : (c : tie.After-choose-running) → let s = c .before .before .before in (n : ℕ) → c .before .before .first-running .result ≡ n → Chosen (pricedAt (s .args .c)) (Within (now (s .args .ends)) n (s .args .last)) (c .choose-running .result .greatest) (c .choose-running .result .least)
 chosen-from c n e =
     let s = c .before .before .before in
-    subst (λ (n : ℕ). Chosen (pricedAt (s .args .c)) (Within (now (s .args .ends)) n (s .args .last)) (c .choose-running .result)) e (running-chosen (running (c .before)) (c .choose-running .ensures))
+    subst (λ (n : ℕ). Chosen (pricedAt (s .args .c)) (Within (now (s .args .ends)) n (s .args .last)) (c .choose-running .result .greatest) (c .choose-running .result .least)) e (running-chosen (running (c .before)) (c .choose-running .ensures))
 
 returns-2 : tie.Need-returns-2
 returns-2 c = chosen-from (c .before) _ (c .if2 .taken)
@@ -66,7 +67,10 @@ module _ (c : tie.Else2) where
   s = c .before .before .before .before
 
   abbrev p : ℕ
-  p = c .before .choose-running .result
+  p = c .before .choose-running .result .greatest
+
+  abbrev l : ℕ
+  l = c .before .choose-running .result .least
 
   stands : high (now (s .args .ends)) (s .args .first) ≡ 0
   stands = by (stands? s)
@@ -81,7 +85,7 @@ module _ (c : tie.Else2) where
   more : s .args .first < s .args .last
   more = omega (arith, next, c .before .before .if1 .left)
 
-  chosen : Chosen (pricedAt (s .args .c)) (Within (now (s .args .ends)) (s .args .first + 1) (s .args .last)) p
+  chosen : Chosen (pricedAt (s .args .c)) (Within (now (s .args .ends)) (s .args .first + 1) (s .args .last)) p l
   chosen = chosen-from (c .before) _ next
 
   runs-at-all : 1 ≤ p
@@ -96,32 +100,52 @@ module _ (c : tie.Else2) where
 priced-cost-requires : tie.Need-priced-cost-requires
 priced-cost-requires c κs = (s c .pre .curve, output c)
 
--- the running unit's priced cost, as it is read
+-- the running unit's priced cost, as it is and as it is read
+priced-is : (c : tie.After-priced-cost) → c .priced-cost .result ≡ pricedAt (s (c .before) .args .c) (p (c .before))
+priced-is c = c .priced-cost .ensures ∙ sym (priced-running (s (c .before) .args .c) (p (c .before)) (runs-at-all (c .before)))
+
 running-read : (c : tie.After-priced-cost) → toZ w64 (ofZ w64 (c .priced-cost .result)) ≡ pricedAt (s (c .before) .args .c) (p (c .before))
-running-read c = toZ-ofZ {w = w64} (search needs) ∙ c .priced-cost .ensures ∙ sym (priced-running (s (c .before) .args .c) (p (c .before)) (runs-at-all (c .before)))
+running-read c = toZ-ofZ {w = w64} (search needs) ∙ priced-is c
+
+only-requires-2 : tie.Need-only-requires-2
+only-requires-2 c κs = search needs
 
 returns-3 : tie.Need-returns-3
 returns-3 c =
-    let h = c .before in
+    let d = c .before in
+    let h = d .before in
     let e = h .before in
-    stands-better (s e .pre) (stands e) (more e) (chosen e)
-    (under (standing-is e) (itself (pricedAt (s e .args .c) (p e))) (when-lt (is-pos 0) (is-same (running-read h) (itself _)) (c .if3 .taken)))
+    rw (c .only2 .ensures .0, c .only2 .ensures .1)
+    (stands-better (s e .pre) (stands e) (more e) (chosen e)
+    (under (standing-is e) (itself (pricedAt (s e .args .c) (p e))) (when-lt (is-pos 0) (is-same (running-read h) (itself _)) (d .if3 .taken))))
 
 returns-4 : tie.Need-returns-4
 returns-4 c =
-    let h = c .before in
+    let h = c .before .before in
     let e = h .before in
-    runs-better (s e .pre) (stands e) (more e) (chosen e)
-    (at-most (itself (pricedAt (s e .args .c) (p e))) (standing-is e) (when-ge (is-pos 0) (is-same (running-read h) (itself _)) (c .if3 .left)))
+    let zero = zero-bits (h .priced-cost .result) (c .if4 .taken) in
+    stands-or-runs (s e .pre) (stands e) (more e) (chosen e) (same (is-same (sym (running-read h)) zero) (standing-is e) (omega arith))
+
+returns-5 : tie.Need-returns-5
+returns-5 c =
+    let h = c .before .before in
+    let e = h .before in
+    let read = is-same (running-read h) (itself (pricedAt (s e .args .c) (p e))) in
+    let not-above = when-ge (is-pos 0) read (c .before .if3 .left) in
+    let not-zero = other-bits (is-same (priced-is h) (itself (pricedAt (s e .args .c) (p e)))) (c .if4 .left) in
+    runs-better (s e .pre) (stands e) (more e) (chosen e) (under (itself (pricedAt (s e .args .c) (p e))) (standing-is e) (omega arith))
 
 pub choose-spec : {M : Type 1} → statement M
 choose-spec =
     tie.close
     (tie.spec
     first-running-requires
+    only-requires
     returns
     choose-running-requires
     returns-2
     priced-cost-requires
+    only-requires-2
     returns-3
-    returns-4)
+    returns-4
+    returns-5)

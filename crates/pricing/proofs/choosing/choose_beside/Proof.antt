@@ -1,7 +1,7 @@
--- `pricing::choosing::choose_beside` meets its contract: the vertex lies in the region that reaches it first, or between that and the one before (`Regions`).
+-- `pricing::choosing::choose_beside` meets its contract: the vertex lies in the region that reaches it first, behind that region's start, or at the start or before it (`Regions`).
 use native.Mathlib.Omega.{arith}
 use Prim.Native.Nat.{_-_}
-use Rattle.pricing.proofs.Regions.{in-region, behind-first, before-small, behind-small, between-regions}
+use Rattle.pricing.proofs.Regions.{alone, twins, lowest-only, behind-first, before-small, behind-small, between-regions}
 use borrow.Author.Needs.{needs}
 use Rattle.pricing.proofs.choosing.choose_beside.Statement.{statement}
 use Rattle.pricing.proofs.choosing.choose_beside.Tie as tie
@@ -21,14 +21,39 @@ mul-low-2 c = search needs
 element-copy-out-low : tie.Need-element-copy-out-low
 element-copy-out-low c = search needs
 
+-- ---- behind the region's start
+
+sub-t16 : tie.Need-sub-t16
+sub-t16 c = search needs
+
 returns : tie.Need-returns
-returns c = let s = c .before in in-region (entry s .pre) (s .before .region-reaching .ensures) (c .if1 .taken)
+returns c = let h = c .before in let s = h .before in twins (entry s .pre) (s .before .region-reaching .ensures) (h .if1 .taken) (c .if2 .taken)
+
+only-requires : tie.Need-only-requires
+only-requires c κs = search needs
+
+returns-2 : tie.Need-returns-2
+returns-2 c =
+    let h = c .before .before in
+    let s = h .before in
+    rw (c .only .ensures .0, c .only .ensures .1) (alone (entry s .pre) (s .before .region-reaching .ensures) (h .if1 .taken) (c .before .if2 .left))
+
+-- ---- at its start, or before it
+
+only-requires-2 : tie.Need-only-requires-2
+only-requires-2 c κs = search needs
+
+returns-3 : tie.Need-returns-3
+returns-3 c =
+    let h = c .before .before in
+    let s = h .before in
+    rw (c .only2 .ensures .0, c .only2 .ensures .1) (lowest-only (entry s .pre) (s .before .region-reaching .ensures) (h .if1 .left) (c .before .if3 .taken))
 
 mul-better : tie.Need-mul-better
 mul-better c = search needs
 
 sub-better : tie.Need-sub-better
-sub-better c = let s = c .before in omega (arith, behind-first (entry s .pre) (s .before .region-reaching .ensures) (c .if1 .left))
+sub-better c = search needs
 
 mul-better-2 : tie.Need-mul-better-2
 mul-better-2 c = search needs
@@ -37,10 +62,20 @@ element-copy-out-better : tie.Need-element-copy-out-better
 element-copy-out-better c = search needs
 
 better-requires : tie.Need-better-requires
-better-requires c κs = let s = c .before .before in let b = entry s .pre in let q = s .before .region-reaching .ensures in (b .running .curve, before-small b q (c .before .if1 .left), behind-small b q (c .before .if1 .left))
+better-requires c κs =
+    let e = c .before in
+    let h = e .before in
+    let s = h .before in
+    let b = entry s .pre in
+    let q = s .before .region-reaching .ensures in
+    (b .running .curve, before-small b q (h .if1 .left) (e .if3 .left), behind-small b q (h .if1 .left) (e .if3 .left))
 
-returns-2 : tie.Need-returns-2
-returns-2 c = let e = c .before .before in let s = e .before in rw (c .better .ensures) (between-regions (entry s .pre) (s .before .region-reaching .ensures) (e .if1 .left))
+returns-4 : tie.Need-returns-4
+returns-4 c =
+    let e = c .before .before in
+    let h = e .before in
+    let s = h .before in
+    rw (c .better .ensures .0, c .better .ensures .1) (between-regions (entry s .pre) (s .before .region-reaching .ensures) (h .if1 .left) (e .if3 .left))
 
 pub choose-beside-spec : {M : Type 1} → statement M
 choose-beside-spec =
@@ -50,10 +85,15 @@ choose-beside-spec =
     mul-low
     mul-low-2
     element-copy-out-low
+    sub-t16
     returns
+    only-requires
+    returns-2
+    only-requires-2
+    returns-3
     mul-better
     sub-better
     mul-better-2
     element-copy-out-better
     better-requires
-    returns-2)
+    returns-4)

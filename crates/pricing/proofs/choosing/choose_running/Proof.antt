@@ -1,20 +1,21 @@
--- `pricing::choosing::choose_running` meets its contract: over is square − linear, by is 2 × square, and the vertex over / by. Past an end of the regions that end is the choice (`Regions`).
-use Prim.Native.Nat.{ℕ, _+_, _*_, _-_, _/_, _≤_, _<_}
+-- `pricing::choosing::choose_running` meets its contract: over is square − linear, by is 2 × square, and the vertex over / by. Past an end of the regions that end is the choice; where square and linear are 0 all outputs tie (`Regions`).
+use Prim.Native.Nat.{ℕ, _+_, _*_, _-_, _/_, _%_, _≤_, _<_}
 use mathlib.Core.Path.{_≡_, ap, subst⁻¹}
-use native.Mathlib.Nat.{mul-le-mul}
+use native.Mathlib.Nat.{mul-le-mul, mod-lt}
 use native.Mathlib.Decide.{decLt}
 use native.Mathlib.Omega.{arith}
 use lib.IntN.{ℤ, natAbs, _-ℤ_}
-use lib.Signed.{quotZ}
+use lib.Signed.{quotZ, remZ}
 use mir.Syntax.{w64}
 use mir.Val.{SFits, toZ, ofZ}
 use denote.Ref.{now}
 use borrow.Author.Needs.{needs}
-use Rattle.fields.proofs.Integers.{Is, up, dn, back, cast, is-minus, fits, kept, not-negative, size-is, when-le, when-gt, when-lt, when-ge}
+use borrow.Author.Tests.{eqb-true, eqb-false}
+use Rattle.fields.proofs.Integers.{Is, up, dn, back, cast, is-minus, fits, kept, not-negative, size-is, when-lt, when-ge}
 use Rattle.site.specs.Site.{low, high}
-use Rattle.pricing.proofs.Signed.{is-quotient}
-use Rattle.pricing.proofs.Heights.{vertex-valley, vertex-from, vertex-to}
-use Rattle.pricing.proofs.Regions.{small, lowest, highest, past-highest, before-lowest}
+use Rattle.pricing.proofs.Signed.{is-quotient, is-remainder, zero-bits, other-bits}
+use Rattle.pricing.proofs.Heights.{vertex-valley, vertex-from, vertex-to, vertex-level, vertex-falls}
+use Rattle.pricing.proofs.Regions.{small, lowest, highest, past-highest, before-lowest, all-tied}
 use Rattle.pricing.proofs.choosing.choose_running.Statement.{statement}
 use Rattle.pricing.proofs.choosing.choose_running.Tie as tie
 
@@ -116,10 +117,14 @@ highest-read c = subst⁻¹ (λ (n : ℕ). Is (toZ w64 (2 * a (entry c) * n)) (2
 lowest-read : (c : tie.After-wide2) → Is (toZ w64 (2 * a (entry-2 c) * c .wide2 .result)) (2 * a (entry-2 c) * lowest-is (entry-2 c)) 0
 lowest-read c = subst⁻¹ (λ (n : ℕ). Is (toZ w64 (2 * a (entry-2 c) * n)) (2 * a (entry-2 c) * lowest-is (entry-2 c)) 0) (c .wide2 .ensures) (product-read (entry-2 c) (lowest-is (entry-2 c)) (low-small (entry-2 c)))
 
+only-requires : tie.Need-only-requires
+only-requires c κs = search needs
+
 returns : tie.Need-returns
 returns c =
-    let b = entry (c .before) in
-    past-highest (b .pre) (omega (arith, when-le (highest-read (c .before)) (over-read b) (c .if1 .taken)))
+    let d = c .before in
+    let b = entry (d .before) in
+    rw (c .only .ensures .0, c .only .ensures .1) (past-highest (b .pre) (omega (arith, when-lt (highest-read (d .before)) (over-read b) (d .if1 .taken))))
 
 wide-requires-2 : tie.Need-wide-requires-2
 wide-requires-2 c κs = search needs
@@ -130,10 +135,14 @@ mul-if2 c = rw (c .wide2 .ensures) (omega (arith, product (entry-2 c) (lowest-is
 cast-if2 : tie.Need-cast-if2
 cast-if2 c = rw (c .wide2 .ensures) (omega (arith, product (entry-2 c) (lowest-is (entry-2 c)) (low-small (entry-2 c))))
 
+only-requires-2 : tie.Need-only-requires-2
+only-requires-2 c κs = search needs
+
 returns-2 : tie.Need-returns-2
 returns-2 c =
-    let b = entry-2 (c .before) in
-    before-lowest (b .pre) (omega (arith, when-lt (over-read b) (lowest-read (c .before)) (c .if2 .taken)))
+    let d = c .before in
+    let b = entry-2 (d .before) in
+    rw (c .only2 .ensures .0, c .only2 .ensures .1) (before-lowest (b .pre) (omega (arith, when-lt (over-read b) (lowest-read (d .before)) (d .if2 .taken))))
 
 -- ---- the vertex between them
 
@@ -141,58 +150,102 @@ module _ (c : tie.Else2) where
   abbrev b : tie.Start
   b = entry-2 (c .before)
 
-  below-highest : a b + t b < 2 * (a b * highest-is b) + s b
-  below-highest = omega (arith, when-gt (highest-read (c .before .before .before)) (over-read b) (c .before .before .if1 .left))
+  below-highest : a b + t b ≤ 2 * (a b * highest-is b) + s b
+  below-highest = omega (arith, when-ge (highest-read (c .before .before .before)) (over-read b) (c .before .before .if1 .left))
 
   above-lowest : 2 * (a b * lowest-is b) + s b ≤ a b + t b
   above-lowest = omega (arith, when-ge (over-read b) (lowest-read (c .before)) (c .if2 .left))
 
-  positive : 0 < a b
-  positive = by (decLt 0 (a b))
-    where
-      by : Dec (0 < a b) → 0 < a b
-      by (yes h) = h
-      by (no h) = let e : a b ≡ 0 = omega arith in absurd (omega (arith, below-highest, above-lowest, ap (λ (n : ℕ). n * highest-is b) e, ap (λ (n : ℕ). n * lowest-is b) e))
-
   not-less : s b ≤ a b + t b
   not-less = omega (arith, above-lowest)
 
+returns-3 : tie.Need-returns-3
+returns-3 c =
+    let d = c .before in
+    let none : a (b d) ≡ 0 = omega (arith, c .if3 .taken) in
+    all-tied (b d .pre) none (omega (arith, below-highest d, above-lowest d, ap (λ (n : ℕ). n * highest-is (b d)) none, ap (λ (n : ℕ). n * lowest-is (b d)) none))
+
+module _ (c : tie.Else3) where
+  abbrev d : tie.Else2
+  d = c .before
+
+  abbrev e : tie.Start
+  e = b d
+
+  positive : 0 < a e
+  positive = by (decLt 0 (a e))
+    where
+      by : Dec (0 < a e) → 0 < a e
+      by (yes h) = h
+      by (no h) = absurd (c .if3 .left (omega arith))
+
   abbrev v : ℕ
-  v = (a b + t b - s b) / (2 * a b)
+  v = (a e + t e - s e) / (2 * a e)
 
-  v-from : lowest-is b ≤ v
-  v-from = vertex-from (b .args .c) positive not-less (lowest-is b) above-lowest
+  v-from : lowest-is e ≤ v
+  v-from = vertex-from (e .args .c) positive (not-less d) (lowest-is e) (above-lowest d)
 
-  v-to : v ≤ highest-is b
-  v-to = vertex-to (b .args .c) positive not-less (highest-is b) below-highest
+  v-to : v ≤ highest-is e
+  v-to = vertex-to (e .args .c) positive (not-less d) (highest-is e) (below-highest d)
 
-  quotient : Is (quotZ (toZ w64 (ofZ w64 (over b))) (toZ w64 (2 * a b))) v 0
-  quotient = is-quotient (over-read b) not-less (2 * a b) (omega (arith, b .pre .curve .square))
+  v-runs : 1 ≤ v
+  v-runs = omega (arith, v-from, e .pre .runs)
+
+  quotient : Is (quotZ (toZ w64 (ofZ w64 (over e))) (toZ w64 (2 * a e))) v 0
+  quotient = is-quotient (over-read e) (not-less d) (2 * a e) (omega (arith, e .pre .curve .square))
+
+  rest : Is (remZ (toZ w64 (ofZ w64 (over e))) (toZ w64 (2 * a e))) ((a e + t e - s e) % (2 * a e)) 0
+  rest = is-remainder (over-read e) (not-less d) (2 * a e) (omega (arith, e .pre .curve .square))
+
+  rest-small : (a e + t e - s e) % (2 * a e) < 2 * a e
+  rest-small = mod-lt (a e + t e - s e) (omega (arith, positive))
+
+  rest-read : Is (toZ w64 (ofZ w64 (remZ (toZ w64 (ofZ w64 (over e))) (toZ w64 (2 * a e))))) ((a e + t e - s e) % (2 * a e)) 0
+  rest-read = kept rest (omega (arith, rest-small, e .pre .curve .square)) (omega arith)
 
   v-small : v ≤ 10000
-  v-small = omega (arith, v-to, high-small b)
+  v-small = omega (arith, v-to, high-small e)
 
-  v-read : Is (toZ w64 (ofZ w64 (quotZ (toZ w64 (ofZ w64 (over b))) (toZ w64 (2 * a b))))) v 0
+  v-read : Is (toZ w64 (ofZ w64 (quotZ (toZ w64 (ofZ w64 (over e))) (toZ w64 (2 * a e))))) v 0
   v-read = kept quotient (omega (arith, v-small)) (omega arith)
 
-  v-is : natAbs (toZ w64 (ofZ w64 (quotZ (toZ w64 (ofZ w64 (over b))) (toZ w64 (2 * a b))))) ≡ v
+  v-is : natAbs (toZ w64 (ofZ w64 (quotZ (toZ w64 (ofZ w64 (over e))) (toZ w64 (2 * a e))))) ≡ v
   v-is = omega (arith, size-is v-read (omega arith))
 
-cast-choose-beside : tie.Need-cast-choose-beside
-cast-choose-beside c = search needs
+cast-twice : tie.Need-cast-twice
+cast-twice c = search needs
 
 div-choose-beside : tie.Need-div-choose-beside
 div-choose-beside c = (omega (arith, positive c), fits (quotient c) (omega (arith, v-small c)) (omega arith))
 
-cast-choose-beside-2 : tie.Need-cast-choose-beside-2
-cast-choose-beside-2 c = (not-negative (v-read c) (omega arith), record { fits = omega (arith, v-is c, v-small c) })
+cast-choose-beside : tie.Need-cast-choose-beside
+cast-choose-beside c = (not-negative (v-read c) (omega arith), record { fits = omega (arith, v-is c, v-small c) })
+
+rem-choose-beside : tie.Need-rem-choose-beside
+rem-choose-beside c = (omega (arith, positive c), fits (quotient c) (omega (arith, v-small c)) (omega arith))
 
 choose-beside-requires : tie.Need-choose-beside-requires
 choose-beside-requires c κs =
-    rw (v-is c) (record { running = b c .pre; from = v-from c; to = v-to c; valley = vertex-valley (b c .args .c) (positive c) (not-less c) })
+    let x = e c in
+    let r = (a x + t x - s x) % (2 * a x) in
+    let z = remZ (toZ w64 (ofZ w64 (over x))) (toZ w64 (2 * a x)) in
+    rw (v-is c)
+    (record {
+      running = x .pre;
+      from = v-from c;
+      to = v-to c;
+      valley = vertex-valley (x .args .c) (positive c) (not-less (d c));
+      level = λ h. vertex-level (x .args .c) (positive c) (not-less (d c)) (v-runs c) (omega (arith, zero-bits z (eqb-true (ofZ w64 z) 0 h), rest-read c));
+      falls = λ h.
+          let n = other-bits (rest c) (eqb-false (ofZ w64 z) 0 h) in
+          vertex-falls (x .args .c) (positive c) (not-less (d c)) (v-runs c) (some r n);
+    })
+  where
+    some : (r : ℕ) → ¬ (r ≡ 0) → 0 < r
+    some r n = omega arith
 
-returns-3 : tie.Need-returns-3
-returns-3 c = search needs
+returns-4 : tie.Need-returns-4
+returns-4 c = search needs
 
 pub choose-running-spec : {M : Type 1} → statement M
 choose-running-spec =
@@ -211,13 +264,17 @@ choose-running-spec =
     wide-requires
     mul-if1
     cast-if1
+    only-requires
     returns
     wide-requires-2
     mul-if2
     cast-if2
+    only-requires-2
     returns-2
-    cast-choose-beside
+    returns-3
+    cast-twice
     div-choose-beside
-    cast-choose-beside-2
+    cast-choose-beside
+    rem-choose-beside
     choose-beside-requires
-    returns-3)
+    returns-4)

@@ -49,26 +49,28 @@ module _ (c : tie.After-known-told2) where
 slice-aggregate-evaluate : tie.Need-slice-aggregate-evaluate
 slice-aggregate-evaluate c = search needs
 
-abbrev told : tie.After-choices → tie.After-known-told2
-told c = c .before .before .before .before
+slice-aggregate-evaluate-2 : tie.Need-slice-aggregate-evaluate-2
+slice-aggregate-evaluate-2 c = search needs
+
+abbrev told : tie.After-least → tie.After-known-told2
+told c = c .before .before .before .before .before
 
 evaluate-requires : tie.Need-evaluate-requires
 evaluate-requires c κs =
     let f = first (told c) in
-    (record { held = record { problem = _; holds = f .site .holds }; multiplier = passed (d (told c)) .if1 .left }, f .site .holds .few)
+    (record { held = record { problem = _; holds = f .site .holds }; multiplier = passed (d (told c)) .if1 .left }, f .site .holds .few, f .site .holds .few)
 
 dual-of-requires : tie.Need-dual-of-requires
 dual-of-requires c κs =
-    let e = c .before in
+    let e = c .before .before in
     let b = told (e .before) in
-    dualable (now (entry (d b) .args .file)) (passed (d b) .if1 .left) (first b) (e .evaluate .ensures)
+    dualable (now (entry (d b) .args .file)) (passed (d b) .if1 .left) (first b) (e .evaluate .ensures .allocates)
 
 returns-3 : tie.Need-returns-3
 returns-3 c =
-    let h = c .before in
-    let e = h .before .before in
+    let e = c .before .before .before in
     let b = told (e .before) in
-    valued (now (entry (d b) .args .file)) (passed (d b) .if1 .left) (first b) (e .evaluate .ensures) (is-same (toZ-ofZ {w = w64} (search needs)) (h .dual-of .ensures))
+    valued (now (entry (d b) .args .file)) (passed (d b) .if1 .left) (first b) (e .evaluate .ensures .allocates) (is-same (toZ-ofZ {w = w64} (search needs)) (c .dual-of .ensures))
 
 pub price-spec : {M : Type 1} → statement M
 price-spec =
@@ -79,6 +81,7 @@ price-spec =
     enum-known-first
     enum-known-first-2
     slice-aggregate-evaluate
+    slice-aggregate-evaluate-2
     evaluate-requires
     dual-of-requires
     returns-2

@@ -5,30 +5,30 @@ use native.Mathlib.Omega.{arith}
 use lib.ListN.{length, getD, length-set}
 use denote.Ref.{now}
 use Rattle.rules.specs.Problem.{Problem}
-use Rattle.rules.specs.Choice.{choice}
+use Rattle.rules.specs.Choice.{choice, leastTied}
 use Rattle.rules.proofs.Economics.Quantities.{cost-range}
 use Rattle.site.specs.Site.{noOffer, HoldsOffer, HoldsProblem}
 use Rattle.pricing.specs.Totals.{Held, Sized}
 use Rattle.pricing.proofs.Regions.{small}
 use Rattle.pricing.proofs.Offers.{choosable, choice-held}
-use Rattle.pricing.proofs.Allocating.{Allocating, allocating-starts, offered, sized-more, allocating-more, allocating-ends}
+use Rattle.pricing.proofs.Allocating.{Allocating, allocating-starts, offered, sized-more, allocating-more, allocating-ends, Filling, filling-starts, filling-more, filling-ends, Spread, spread-starts, spread-more}
 use Rattle.pricing.proofs.totals.evaluate.Statement.{statement}
 use Rattle.pricing.proofs.totals.evaluate.Tie as tie
 
 abbrev Inv-loop : tie.InvT-loop
-Inv-loop coefficients ends ranges n m outputs₀ cost₀ net₀ i₀ outputs cost net i = (length outputs ≡ length outputs₀) × Allocating (choice m) coefficients ends ranges n outputs cost net i
+Inv-loop coefficients ends ranges n m outputs₀ least₀ cost₀ net₀ spread₀ i₀ outputs least cost net spread i = (length outputs ≡ length outputs₀) × Allocating (choice m) coefficients ends ranges n outputs cost net i × (length least ≡ length least₀) × Filling (leastTied m) coefficients ends ranges n least i × Spread outputs least spread i
 
 abbrev μ-loop : tie.MeasureT-loop
-μ-loop coefficients ends ranges n m outputs₀ cost₀ net₀ i₀ outputs cost net i = n - i
+μ-loop coefficients ends ranges n m outputs₀ least₀ cost₀ net₀ spread₀ i₀ outputs least cost net spread i = n - i
 
 loop-holds : tie.Need-loop-holds Inv-loop μ-loop
-loop-holds c = let b = c .before in (refl, allocating-starts (choice (b .args .m)) (b .pre .0 .held) (b .pre .1))
+loop-holds c = let b = c .before .before in (refl, allocating-starts (choice (b .args .m)) (b .pre .0 .held) (b .pre .1), refl, filling-starts (leastTied (b .args .m)) (b .pre .2), spread-starts _ _)
 
 -- ---- unit i
 
 module _ (c : tie.In-loop Inv-loop μ-loop) where
   abbrev s : tie.Start Inv-loop μ-loop
-  s = c .before .before .before
+  s = c .before .before .before .before
 
   abbrev i : ℕ
   i = c .before .loop .i
@@ -78,21 +78,48 @@ module _ (c : tie.After-choose Inv-loop μ-loop) where
   t = c .before .before .before .before
 
   abbrev r : ℕ
-  r = c .choose .result
+  r = c .choose .result .greatest
 
   output : r ≤ 10000
   output = small (unit t .regions) r (c .choose .ensures .candidate)
 
-  picked : (q : Problem) → HoldsProblem (now (s t .args .coefficients)) (now (s t .args .ends)) (now (s t .args .ranges)) (s t .args .n) q → r ≡ choice (s t .args .m) (getD (q .offers) (i t) noOffer)
-  picked q h =
+  abbrev l : ℕ
+  l = c .choose .result .least
+
+  below : l ≤ r
+  below = let d = c .choose .ensures in d .first r (d .candidate) refl
+
+  both : (q : Problem) → HoldsProblem (now (s t .args .coefficients)) (now (s t .args .ends)) (now (s t .args .ranges)) (s t .args .n) q → let o = getD (q .offers) (i t) noOffer in (r ≡ choice (s t .args .m) o) × (l ≡ leastTied (s t .args .m) o)
+  both q h =
       let o = h .offers (i t) (t .loop-test .taken) in
       choice-held o (c .before .curve-of .ensures .1 _ (o .unit)) (c .choose .ensures)
+
+  picked : (q : Problem) → HoldsProblem (now (s t .args .coefficients)) (now (s t .args .ends)) (now (s t .args .ranges)) (s t .args .n) q → r ≡ choice (s t .args .m) (getD (q .offers) (i t) noOffer)
+  picked q h = both q h .0
+
+  picked-least : (q : Problem) → HoldsProblem (now (s t .args .coefficients)) (now (s t .args .ends)) (now (s t .args .ranges)) (s t .args .n) q → l ≡ leastTied (s t .args .m) (getD (q .offers) (i t) noOffer)
+  picked-least q h = both q h .1
 
 mul-outputs : tie.Need-mul-outputs Inv-loop μ-loop
 mul-outputs c = omega (arith, few (t c))
 
 slice-write-outputs : tie.Need-slice-write-outputs Inv-loop μ-loop
 slice-write-outputs c = omega (arith, t c .before .loop .inv .1 .room, t c .loop-test .taken)
+
+mul-least : tie.Need-mul-least Inv-loop μ-loop
+mul-least c = omega (arith, few (t c))
+
+slice-write-least : tie.Need-slice-write-least Inv-loop μ-loop
+slice-write-least c = omega (arith, t c .before .loop .inv .3 .room, t c .loop-test .taken)
+
+sub-spread : tie.Need-sub-spread Inv-loop μ-loop
+sub-spread c = below c
+
+cast-spread : tie.Need-cast-spread Inv-loop μ-loop
+cast-spread c = omega (arith, output c)
+
+add-spread : tie.Need-add-spread Inv-loop μ-loop
+add-spread c = omega (arith, t c .before .loop .inv .4 .small, output c, few (t c))
 
 cost-of-requires : tie.Need-cost-of-requires Inv-loop μ-loop
 cost-of-requires c κs = record { few = few (t c); output = output c; unit = _; holds = unit (t c) .unit }
@@ -124,15 +151,27 @@ loop-again c =
     let d = c .before .before in (
       simp length-set (t d .before .loop .inv .0),
       allocating-more (choice (s (t d) .args .m)) (g (t d)) (t d .before .loop .inv .1) (t d .loop-test .taken) (output d) (picked d) (c .before .cost-of .ensures) (c .net-of .ensures),
+      simp length-set (t d .before .loop .inv .2),
+      filling-more (leastTied (s (t d) .args .m)) (t d .before .loop .inv .3) (t d .loop-test .taken) (picked-least d),
+      spread-more (t d .before .loop .inv .4) (omega (arith, t d .before .loop .inv .1 .room, t d .loop-test .taken)) (omega (arith, t d .before .loop .inv .3 .room, t d .loop-test .taken)) (output d) (below d),
     )
 
 same-length : tie.Need-same-length Inv-loop μ-loop
 same-length c = c .before .loop .inv .0
 
+same-length-2 : tie.Need-same-length-2 Inv-loop μ-loop
+same-length-2 c = c .before .loop .inv .2
+
 returns : tie.Need-returns Inv-loop μ-loop
 returns c =
-    let b = c .before .before .before in
-    allocating-ends (choice (b .args .m)) (b .pre .0 .held) (c .before .loop .inv .1) (omega (arith, c .before .loop .inv .1 .within, c .loop-test .left))
+    let b = c .before .before .before .before in
+    let l = c .before .loop in
+    let all : l .i ≡ b .args .n = omega (arith, l .inv .1 .within, c .loop-test .left) in
+    record {
+      allocates = allocating-ends (choice (b .args .m)) (b .pre .0 .held) (l .inv .1) all;
+      tied = filling-ends (leastTied (b .args .m)) (l .inv .3) all;
+      alone = rw all at (l .inv .4 .alone);
+    }
 
 pub evaluate-spec : {M : Type 1} → statement M
 evaluate-spec =
@@ -152,6 +191,11 @@ evaluate-spec =
     choose-requires
     mul-outputs
     slice-write-outputs
+    mul-least
+    slice-write-least
+    sub-spread
+    cast-spread
+    add-spread
     cost-of-requires
     add-cost
     net-of-requires
@@ -160,4 +204,5 @@ evaluate-spec =
     loop-less
     loop-again
     same-length
+    same-length-2
     returns)

@@ -1,0 +1,57 @@
+// Choices that cover, lowered: the units one by one, each where all together then still cover (rule 10.4).
+ghost use Rattle.bisection.specs.Lowering.{UnitLowerable, LowersUnit, Lowerable, Lowers};
+use pricing::Sums;
+
+// Lowers unit `i` to its least tied output `l` where all outputs together, of cost and net `s`, then still cover.
+fn lower_unit(
+    coefficients: &[u64; 160],
+    i: usize,
+    target: u64,
+    s: Sums,
+    l: u16,
+    outputs: &mut [u16],
+) -> Sums
+    requires { ⌜ UnitLowerable (now coefficients) i s l (now outputs) ⌝ }
+    ensures { λ r. ⌜ LowersUnit (now (coefficients .entry)) i target s l (now (outputs .entry)) (now (outputs .exit)) r ⌝ }
+{
+    let p = outputs[i];
+    if p <= l {
+        return s;
+    }
+    let Sums { cost, net } = s;
+    let after = net - pricing::net_of(coefficients, i, p) + pricing::net_of(coefficients, i, l);
+    if after < target {
+        return s;
+    }
+    outputs[i] = l;
+    Sums {
+        cost: cost - pricing::cost_of(coefficients, i, p) + pricing::cost_of(coefficients, i, l),
+        net: after,
+    }
+}
+
+// Lowers the first `n` units one by one; `outputs` are their choices, of cost and net `s`, and `least` their least tied outputs,
+// together `spread` steps below.
+pub fn lower(
+    coefficients: &[u64; 160],
+    n: usize,
+    target: u64,
+    s: Sums,
+    spread: u64,
+    least: &[u16],
+    outputs: &mut [u16],
+) -> Sums
+    requires { ⌜ Lowerable (now coefficients) n s spread (now least) (now outputs) ⌝ }
+    ensures { λ r. ⌜ Lowers (now (coefficients .entry)) n target s (now (least .entry)) (now (outputs .entry)) (now (outputs .exit)) r ⌝ }
+{
+    if spread == 0 {
+        return s;
+    }
+    let mut sums = s;
+    let mut i = 0;
+    while i < n {
+        sums = lower_unit(coefficients, i, target, sums, least[i], outputs);
+        i += 1;
+    }
+    sums
+}

@@ -1,0 +1,39 @@
+-- Rules 10.5 and 16.18 of docs/SPECIFICATION.md (since S-6), as statements: what lowering keeps, what it saves, and that it goes further where there is more to spare. (They are proved in proofs/Saving.)
+use Prim.Native.Nat.{ℕ, _≤_}
+use mathlib.Core.List.{List}
+use mathlib.Core.Logic.{_↔_}
+use mathlib.Core.Path.{_≡_}
+use lib.ListN.{length}
+use Rattle.rules.specs.Layout.{caseOf}
+use Rattle.rules.specs.Problem.{totalCost, totalNet, Problem, unitsOf, target, problemIn}
+use Rattle.rules.specs.Choice.{choices, selected}
+use Rattle.rules.specs.Calls.{DispatchResult, caseVerdict}
+use Rattle.rules.specs.Promise.{replyIn, Covering}
+use Rattle.rules.specs.declared.Verdict.{Verdict}
+
+-- ---- (rule 10.5) at a multiplier of a problem, against the choices as they are
+
+pub record Saves (m : ℕ) (q : Problem) : Type 0 where
+  -- what an evaluation takes covers exactly where the choices do
+  pub covers : (target q ≤ totalNet (unitsOf q) (selected m q)) ↔ (target q ≤ totalNet (unitsOf q) (choices m q))
+  -- with no more net, at no more cost
+  pub net : totalNet (unitsOf q) (selected m q) ≤ totalNet (unitsOf q) (choices m q)
+  pub cost : totalCost (unitsOf q) (selected m q) ≤ totalCost (unitsOf q) (choices m q)
+
+-- of every case that step 1 accepts
+abbrev pub LoweringSaves : Type 0
+LoweringSaves = (file : List ℕ) → caseVerdict file ≡ Verdict.Accepted → (m : ℕ) → Saves m (problemIn file)
+
+-- the same case with a smaller demand: where the greater one is covered so is the smaller one, with no more net
+pub record Slacker (m d : ℕ) (q : Problem) : Type 0 where
+  pub covers : target q ≤ totalNet (unitsOf q) (selected m q) → target (record { demand = d; offers = q .offers }) ≤ totalNet (unitsOf q) (selected m (record { demand = d; offers = q .offers }))
+  pub net : target q ≤ totalNet (unitsOf q) (selected m q) → totalNet (unitsOf q) (selected m (record { demand = d; offers = q .offers })) ≤ totalNet (unitsOf q) (selected m q)
+
+abbrev pub LowersFurtherWithMoreToSpare : Type 0
+LowersFurtherWithMoreToSpare = (file : List ℕ) → caseVerdict file ≡ Verdict.Accepted → (m d : ℕ) → d ≤ problemIn file .demand → Slacker m d (problemIn file)
+
+-- ---- (rule 16.18) no multiplier has choices, as they are before lowering, that cover and are cheaper than the reply
+
+abbrev pub ChoicesNotCheaper : (List ℕ → List ℕ → DispatchResult) → Type 0
+ChoicesNotCheaper dispatch =
+    (file reply : List ℕ) → caseVerdict file ≡ Verdict.Accepted → 92 ≤ length reply → (m : ℕ) → m ≤ 65536 → Covering (caseOf file) (choices m (problemIn file)) → replyIn (dispatch file reply .reply) .cost ≤ totalCost (caseOf file .units) (choices m (problemIn file))
