@@ -96,9 +96,9 @@ judgements =
     ∷ record { file = otherMark; outputs = []; answer = Judged.Refused RampOrMarkOutOfRange }
     -- 19 before 18
     ∷ record { file = withLinearLoss 0x00 0x98 0x96 0x81; outputs = []; answer = Judged.Refused LossesOutOfRange }
-    -- outputs cheaper than dispatch's told at dispatch's cost or distance
-    ∷ record { file = fileOf 5 (U ∷ U ∷ []); outputs = 2 ∷ 3 ∷ []; answer = Judged.Accepted 63000 0 0 }
     -- dispatch's own outputs of two units at another cost, surplus or distance
+    ∷ record { file = fileOf 5 (U ∷ U ∷ []); outputs = 2 ∷ 3 ∷ []; answer = Judged.Accepted 63000 0 0 }
+    -- outputs dearer than dispatch's told at dispatch's cost or distance
     ∷ record { file = fileOf 5 (U ∷ U ∷ []); outputs = 3 ∷ 3 ∷ []; answer = Judged.Accepted 78000 100000000 15000 }
     -- cover asked of each output
     ∷ record { file = fileOf 5 (U ∷ U ∷ []); outputs = 7 ∷ 0 ∷ []; answer = Judged.Accepted 119000 200000000 56000 }

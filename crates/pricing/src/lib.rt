@@ -34,8 +34,8 @@ pub struct Sums {
     pub net: u64,
 }
 
-// What an evaluation gives besides its arrays: cost and net of the choices together, and by how many steps in all the choices lie
-// above the least tied outputs.
+// What an evaluation gives besides its arrays: cost and net of the choices together, and the steps by which they lie above the
+// least tied outputs, summed; it is promised that 0 is given only where no unit has a lower tied output.
 pub struct Evaluated {
     pub cost: u64,
     pub net: u64,

@@ -9,11 +9,11 @@ use Rattle.rules.specs.Problem.{totalNet, problemIn}
 use Rattle.rules.specs.Choice.{choices, selected}
 use Rattle.rules.specs.Calls.{caseVerdict, dispatched}
 use Rattle.rules.specs.Promise.{Covering}
-use Rattle.rules.specs.Lowering.{LoweringSaves, LowersFurtherWithMoreToSpare, ChoicesNotCheaper}
+use Rattle.rules.specs.Lowering.{LoweringSaves, LowersInFileOrder, LowersFurtherWithMoreToSpare, ChoicesNotCheaper}
 use Rattle.rules.specs.declared.Verdict.{Verdict}
 use Rattle.rules.proofs.Lists.{Every}
 use Rattle.rules.proofs.Economics.Allocations.{Available, tied-given, choices-tied}
-use Rattle.rules.proofs.Economics.Lowering.{saves, slacker}
+use Rattle.rules.proofs.Economics.Lowering.{saves, in-file-order, slacker}
 use Rattle.rules.proofs.Economics.Solvable.{solvable-available, case-proper}
 use Rattle.rules.proofs.Economics.Solution.{same-cost, same-net, same-target, covering-net, given-permitted}
 use Rattle.rules.proofs.Encoding.SoundFile.{units-sound}
@@ -26,6 +26,9 @@ available file e =
 
 pub lowering-saves : LoweringSaves
 lowering-saves file e = saves (problemIn file) (available file e)
+
+pub lowers-in-order : LowersInFileOrder
+lowers-in-order file e = in-file-order (problemIn file) (available file e)
 
 pub lowers-further : LowersFurtherWithMoreToSpare
 lowers-further file e = slacker (problemIn file) (available file e)

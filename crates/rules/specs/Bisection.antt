@@ -30,7 +30,7 @@ module _ {X : Type 0} (choose : ℕ → X) (net : X → ℕ) (target : ℕ) wher
       let ended : Found X = record { best = x; evaluated = middle ∷ seen } in
       cond (eqb (net x) target) ended (cond (leb target (net x)) lower-half upper-half)
 
-  -- (rules 11.5 to 11.7) step 3: 65,536. Without cover it ends with the first best; with a net equal to the target, with its own choices; else step 4 goes on from them.
+  -- (rules 11.5 to 11.7) step 3: 65,536. Without cover it ends with the first best; with a net equal to the target, with what it takes itself; else step 4 goes on from that.
   unfoldable pub step3 : X → Found X
   step3 first =
       let x = choose 65536 in
@@ -40,7 +40,7 @@ module _ {X : Type 0} (choose : ℕ → X) (net : X → ℕ) (target : ℕ) wher
       let uncovered : Found X = record { best = first; evaluated = seen } in
       cond (leb target (net x)) (cond (eqb (net x) target) ended halved) uncovered
 
-  -- (rules 11.3, 11.4) the whole search, from step 2 on: 0. Where its choices cover, they are the best and the end.
+  -- (rules 11.3, 11.4) the whole search, from step 2 on: 0. Where what it takes covers, that is the best and the end.
   unfoldable pub search : X → Found X
   search first =
       let x = choose 0 in

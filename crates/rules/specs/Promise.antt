@@ -59,8 +59,8 @@ pub record ReplyPromise (c : Case) (r : Reply) : Type 0 where
   pub nobodySpendsLess : (ps : List ℕ) → Permitted c ps → Covering c ps → costLessGap r ≤ℤ pos (totalCost (c .units) ps)
   -- (rule 16.12) and no multiplier proves a better bound
   pub greatestFloor : GreatestFloor (problemOf c) (costLessGap r)
-  -- (rule 16.13) no multiplier has covering choices that are cheaper than the reply
-  -- (What the evaluation of a multiplier takes is `Choice.selected`: its choices.)
+  -- (rule 16.13) no multiplier has a covering allocation that is cheaper than the reply
+  -- (What the evaluation of a multiplier takes is `Choice.selected`: its choices, lowered where they cover.)
   pub cheapest : (m : ℕ) → m ≤ 65536 → Covering c (selected m (problemOf c)) → r .cost ≤ totalCost (c .units) (selected m (problemOf c))
   -- (rule 16.14) the evaluations are counted as the search makes them
   pub evaluations : r .evaluations ≡ length (found (problemOf c) .evaluated)

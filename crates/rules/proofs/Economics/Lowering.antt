@@ -1,22 +1,23 @@
 -- Lowering (rule 10.4), of any problem: what is lowered stays tied and keeps cover, never nets more than the choices, and nets less the more there is to spare.
 use mathlib.Core.Path.{_≡_, refl, ap, _∙_}
 use mathlib.Core.Bool.{Bool, true, false, cond}
-use mathlib.Core.List.{List, [], _∷_, map}
-use Prim.Native.Nat.{ℕ, _+_, _*_, _-_, _≤_, _<_}
+use mathlib.Core.List.{List, [], _∷_, _++_, map}
+use Prim.Native.Nat.{ℕ, suc, _+_, _*_, _-_, _≤_, _<_}
 use native.Mathlib.Nat.{mul-le-mul-left}
 use native.Mathlib.Omega.{arith}
 use lib.Dec.{leb}
+use lib.ListN.{length, getD, take}
 use borrow.Author.Tests.{leb-true, leb-false, le-leb, lt-leb}
-use Rattle.rules.specs.Unit.{cost, net}
+use Rattle.rules.specs.Unit.{Unit, cost, net}
 use Rattle.rules.specs.Problem.{totalCost, totalNet, Offer, Problem, unitsOf, target}
 use Rattle.rules.specs.Choice.{choice, leastTied, choices, lowered, selected}
-use Rattle.rules.specs.Lowering.{Saves, Slacker}
+use Rattle.rules.specs.Lowering.{Saves, InFileOrder, Slacker}
 use Rattle.fields.proofs.Integers.{ints}
 use Rattle.rules.proofs.Lists.{Every}
 use Rattle.rules.proofs.Verdicts.{either-way}
 use Rattle.rules.proofs.Economics.Quantities.{priced-is, net-monotone}
 use Rattle.rules.proofs.Economics.Duality.{costs-least}
-use Rattle.rules.proofs.Economics.Allocations.{Available, Tied, tied-given, chosen, choices-tied, relaxation}
+use Rattle.rules.proofs.Economics.Allocations.{Available, Tied, tied-given, chosen, choices-tied, dual-is, relaxation}
 
 abbrev netOf : List Offer → List ℕ → ℕ
 netOf os ps = totalNet (map (λ o. o .unit) os) ps
@@ -88,6 +89,22 @@ module _ (m : ℕ) where
   lowered-alone t w [] e part = lowered-none t w
   lowered-alone t w (o ∷ os) e part = unit-alone t w o os (cc) (omega arith) ∙ ap (λ (ps : List ℕ). choice m o ∷ ps) (lowered-alone t w os (cc) (omega arith))
 
+  -- the unit behind `before`, where `kept` is the net of units that stand before these
+  pub lowered-in-order : (t w kept : ℕ) (before after : List Offer) (o : Offer) → let os = before ++ (o ∷ after) in w ≡ kept + netOf os (map (choice m) os) → (z : ℕ) → z ≡ kept + netOf os (take (length before) (lowered m t w os) ++ (leastTied m o ∷ map (choice m) after)) → getD (lowered m t w os) (length before) 0 ≡ cond (leb t z) (leastTied m o) (choice m o)
+  unfolding lowered totalNet
+  lowered-in-order t w kept [] after o e z f =
+      let same : w - top o + low o ≡ z = omega arith in
+      rw same (first (leb t z) (lowered m t z after) (lowered m t w after))
+    where
+      first : (b : Bool) (xs ys : List ℕ) → getD (cond b (leastTied m o ∷ xs) (choice m o ∷ ys)) 0 0 ≡ cond b (leastTied m o) (choice m o)
+      first true xs ys = refl
+      first false xs ys = refl
+  lowered-in-order t w kept (b ∷ bs) after o e z f =
+      let os = bs ++ (o ∷ after) in
+      let w′ = w - top b + low b in
+      either-way (λ (ls : List ℕ). z ≡ kept + netOf (b ∷ os) (take (suc (length bs)) ls ++ (leastTied m o ∷ map (choice m) after)) → getD ls (suc (length bs)) 0 ≡ cond (leb t z) (leastTied m o) (choice m o)) (leb t w′)
+      (λ _ g. lowered-in-order t w′ (kept + low b) bs after o (omega arith) z (omega arith)) (λ _ g. lowered-in-order t w (kept + top b) bs after o (omega arith) z (omega arith)) f
+
   -- the whole covers as before: no more is given up than there is to spare
   pub lowered-covers : (t w : ℕ) (os : List Offer) → Every Available os → t ≤ w → netOf os (map (choice m) os) ≤ w → t + netOf os (map (choice m) os) ≤ w + netOf os (lowered m t w os)
   unfolding lowered totalNet
@@ -144,9 +161,20 @@ module _ (q : Problem) (g : Every Available (q .offers)) where
     unfolding choices
     still-covers h = rw (selected-lowered h) (omega (arith, lowered-covers m (target q) w (q .offers) g h (omega arith)))
 
+    pub in-file-order : InFileOrder m q
+    unfolding choices
+    in-file-order h before after o e =
+        let os = before ++ (o ∷ after) in
+        let units : unitsOf q ≡ map (λ x. x .unit) os = ap (λ (xs : List Offer). map (λ x. x .unit) xs) e in
+        let ls : selected m q ≡ lowered m (target q) w os = selected-lowered h ∙ ap (lowered m (target q) w) e in
+        let all : w ≡ totalNet (map (λ x. x .unit) os) (map (choice m) os) = ap (λ (xs : List Offer). totalNet (map (λ x. x .unit) xs) (map (choice m) xs)) e in
+        let tried = take (length before) (lowered m (target q) w os) ++ (leastTied m o ∷ map (choice m) after) in
+        rw ls (lowered-in-order m (target q) w 0 before after o (omega (arith, all)) (totalNet (unitsOf q) tried) (omega (arith, ap (λ (us : List Unit). totalNet us tried) units)))
+
     pub saves : Saves m q
     saves =
         record {
+          tied = omega (arith, relaxation q g (λ n. selected n q) selected-tied .value-is m, dual-is m q);
           covers = (λ h. omega (arith, net-at-most), still-covers);
           net = net-at-most;
           cost = costs-least (relaxation q g (λ n. selected n q) selected-tied) m (choices m q) (tied-given m (q .offers) (choices m q) (choices-tied m q g)) net-at-most;
@@ -168,12 +196,16 @@ module _ (q : Problem) (g : Every Available (q .offers)) (m d : ℕ) (less : d �
   unfolding choices
   chosen-net = refl
 
+  no-more-net : target q ≤ totalNet (unitsOf q) (selected m q) → totalNet (unitsOf q) (selected m q′) ≤ totalNet (unitsOf q) (selected m q)
+  no-more-net h =
+      let c : target q ≤ v = omega (arith, net-at-most q g m) in
+      let looser = selected-lowered q′ g m (omega (arith, same-net)) in
+      rw (selected-lowered q g m c, looser, same-net) (lowered-monotone m (target q) v (target q′) v (q .offers) g c (omega arith) (omega (arith, chosen-net)) (omega (arith, chosen-net)))
+
   pub slacker : Slacker m d q
   slacker =
       record {
         covers = λ h. still-covers q′ g m (omega (arith, same-net, net-at-most q g m));
-        net = λ h.
-            let c : target q ≤ v = omega (arith, net-at-most q g m) in
-            let looser = selected-lowered q′ g m (omega (arith, same-net)) in
-            rw (selected-lowered q g m c, looser, same-net) (lowered-monotone m (target q) v (target q′) v (q .offers) g c (omega arith) (omega (arith, chosen-net)) (omega (arith, chosen-net)));
+        net = no-more-net;
+        cost = λ h. costs-least (relaxation q′ g (λ n. selected n q′) (selected-tied q′ g)) m (selected m q) (tied-given m (q .offers) (selected m q) (selected-tied q g m)) (no-more-net h);
       }
