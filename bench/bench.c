@@ -2,6 +2,7 @@
  * of units. It first compares the answers of both. */
 #include "agreement.h"
 #include "cases.h"
+#include "floors.h"
 #include "judges.h"
 #include "measure.h"
 #include "plain.h"
@@ -273,5 +274,6 @@ int main(int argc, char **argv)
     print_times(repetitions);
     time_views(repetitions);
     time_judges(repetitions, &groups[OF_EDITION_1 - 1]);
+    time_floors(repetitions, &groups[OF_EDITION_1 - 1]);
     return 0;
 }

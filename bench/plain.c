@@ -1,14 +1,14 @@
 /* A plain C program of the specification's dispatch, from file bytes to reply bytes: what the controller is measured against.
  * It checks and decodes each unit once, finds its permitted outputs once as regions, and makes one division a unit and
- * evaluation, from which it also has the least tied output. Judging outputs that someone gives has the same parts. It is tested,
- * not proved. */
+ * evaluation, from which it also has the least tied output. Judging outputs that someone gives and floors for other demands have
+ * the same parts. It is tested, not proved. */
 #include "plain.h"
 
 enum { UNITS_MAX = 32, ZONES_MAX = 4, REGIONS_MAX = 6 };
 enum { HEAD_BYTES = 8, ENTRY_BYTES = 4, ZONE_BYTES = 4 };
 enum { B1_AT = 26, B1_BYTES = 4, B1_MAX = 10000000 };
 enum { REPLY_BYTES_MIN = 92, OUTPUTS_AT = 28, JUDGE_ANSWERS = 4 };
-enum { DEMAND_MAX = 320000, OUTPUT_MAX = 10000, MULTIPLIER_MAX = 65536 };
+enum { DEMAND_MAX = 320000, OUTPUT_MAX = 10000, MULTIPLIER_MAX = 65536, EVALUATIONS_MAX = 18, DEMANDS_MAX = 96 };
 
 #define NET_OF_STEP INT64_C(100000000)
 #define PRICED_OF_COST INT64_C(100000)
@@ -27,7 +27,9 @@ enum refusal {
     RAMP_OR_MARK_OUT_OF_RANGE = 10,
     NO_ALLOCATION = 11,
     LOSSES_OUT_OF_RANGE = 18,
-    OUTPUT_COUNT_INVALID = 19
+    OUTPUT_COUNT_INVALID = 19,
+    DEMANDS_INVALID = 20,
+    FLOORS_TOO_SHORT = 21
 };
 
 struct unit {
@@ -62,11 +64,17 @@ struct allocation {
     uint32_t lowered;
 };
 
-/* Of the evaluations, those count as lowered in which a unit was. */
+/* A multiplier and its floor. */
+struct bound {
+    int64_t multiplier, floor;
+};
+
+/* Of the evaluations, those count as lowered in which a unit was. Each has its bound; floor is the greatest of them. */
 struct solution {
     struct allocation best;
     int64_t floor;
     uint32_t evaluations, lowered;
+    struct bound bounds[EVALUATIONS_MAX];
 };
 
 /* ---- fields */
@@ -398,12 +406,14 @@ static int64_t evaluate(const struct problem *q, int64_t m, struct allocation *a
     return floor;
 }
 
-/* Evaluates a multiplier, counts it, and keeps the greatest floor. */
+/* Evaluates a multiplier, counts it, and keeps its bound and the greatest floor. */
 static void try_multiplier(const struct problem *q, int64_t m, struct solution *s, struct allocation *choices)
 {
     int64_t floor = evaluate(q, m, choices);
     if (s->evaluations == 0 || floor > s->floor)
         s->floor = floor;
+    s->bounds[s->evaluations].multiplier = m;
+    s->bounds[s->evaluations].floor = floor;
     s->evaluations++;
     s->lowered += choices->lowered != 0;
 }
@@ -539,5 +549,50 @@ uint32_t plain_judge(const uint8_t *file, size_t file_length, const uint32_t *ou
     answers[1] = accepted ? given.cost : 0;
     answers[2] = accepted ? given.net - q.target : 0;
     answers[3] = accepted ? given.cost - s.floor : 0;
+    return 0;
+}
+
+/* ---- floors for other demands */
+
+static int demands_valid(const uint32_t *demands, size_t length)
+{
+    if (length > DEMANDS_MAX)
+        return 0;
+    for (size_t i = 0; i < length; i++)
+        if (demands[i] > DEMAND_MAX)
+            return 0;
+    return 1;
+}
+
+/* The greatest floor of the evaluated multipliers for a demand so many steps above the case's own. At each multiplier a step is
+ * worth a whole number of millionths, so that a floor moves by it and need not be rounded again. */
+static int64_t moved_floor(const struct solution *s, int64_t steps)
+{
+    int64_t greatest = s->bounds[0].floor;
+    for (uint32_t k = 1; k < s->evaluations; k++) {
+        int64_t floor = s->bounds[k].floor + NET_OF_STEP / PRICED_OF_COST * s->bounds[k].multiplier * steps;
+        greatest = floor > greatest ? floor : greatest;
+    }
+    return greatest;
+}
+
+uint32_t plain_floors(const uint8_t *file, size_t file_length, const uint32_t *demands, size_t demands_length, int64_t *floors,
+                      size_t floors_room, int64_t *answers, size_t answers_room)
+{
+    struct problem q;
+    struct solution s;
+    if (answers_room < 1)
+        return BUFFER_TOO_SHORT;
+    if (!demands_valid(demands, demands_length))
+        return DEMANDS_INVALID;
+    if (floors_room < demands_length)
+        return FLOORS_TOO_SHORT;
+    enum refusal r = solve(file, file_length, &q, &s);
+    if (r != ACCEPTED)
+        return r;
+    int64_t own = read_u32(file + 4);
+    for (size_t i = 0; i < demands_length; i++)
+        floors[i] = moved_floor(&s, demands[i] - own);
+    answers[0] = (int64_t)demands_length;
     return 0;
 }

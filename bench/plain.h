@@ -1,4 +1,4 @@
-/* The plain C programs of the specification's dispatch, view and judging, as the benchmark calls them. */
+/* The plain C programs of the specification's dispatch, view, judging and floors, as the benchmark calls them. */
 #ifndef PLAIN_H
 #define PLAIN_H
 
@@ -24,5 +24,9 @@ uint32_t plain_view(const uint8_t *reply, size_t reply_length, const uint8_t *re
 /* As shahfureel_judge in include/shahfureel.h. */
 uint32_t plain_judge(const uint8_t *file, size_t file_length, const uint32_t *outputs, size_t outputs_length, int64_t *answers,
                      size_t answers_room);
+
+/* As shahfureel_floors in include/shahfureel.h. */
+uint32_t plain_floors(const uint8_t *file, size_t file_length, const uint32_t *demands, size_t demands_length, int64_t *floors,
+                      size_t floors_room, int64_t *answers, size_t answers_room);
 
 #endif

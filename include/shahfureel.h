@@ -2,8 +2,9 @@
  *
  * A unit is a generating set. A row is a unit's numbers as a list; packing turns rows and a demand into a case file, a few
  * hundred bytes; dispatch turns a case file into a reply: who gives how much, what it costs, and the gap to the best. Judging takes
- * a case file and outputs of your own, and says whether they will do, what they cost and how far that is from the best at most. The
- * view serves a reply to station screens that poll it by Modbus.
+ * a case file and outputs of your own, and says whether they will do, what they cost and how far that is from the best at most.
+ * Floors takes a case file and other demands, and says for each what it costs at least, from one search. The view serves a reply to
+ * station screens that poll it by Modbus.
  *
  * A whole program: one unit that can give 0.2 to 1.0 MW, but nothing strictly between 0.4 and 0.7 MW, is asked for 0.5 MW.
  * It prints "unit 1 gives 0.7 MW" and "cost 119000, nobody does it for less than 77000".
@@ -52,9 +53,9 @@
  *     output buffers of its own. It takes about 3 kB of stack at most (seen, not proved).
  * What the caller must ensure (nothing in C can check it):
  *   - each pointer is valid for its length or room, and lists of numbers are aligned for their type;
- *   - LENGTHS AND ROOM OF LISTS COUNT NUMBERS, NOT BYTES: rows_length, rows_room, outputs_length, answers_room. For an array that
- *     is `sizeof rows / sizeof rows[0]`; a bare `sizeof rows` lets the call pass the array's end. Files, replies, requests and the
- *     view's answer count bytes;
+ *   - LENGTHS AND ROOM OF LISTS COUNT NUMBERS, NOT BYTES: rows_length, rows_room, outputs_length, demands_length, floors_room,
+ *     answers_room. For an array that is `sizeof rows / sizeof rows[0]`; a bare `sizeof rows` lets the call pass the array's end.
+ *     Files, replies, requests and the view's answer count bytes;
  *   - a length or room is at most PTRDIFF_MAX bytes, and a pointer is not null, also where the length is 0;
  *   - an output buffer overlaps no other buffer of the same call.
  * A `..._length` is the exact length of an input: a case file's length is what packing returned or what was read, not the size of
@@ -77,8 +78,9 @@ extern "C" {
 #define SHAHFUREEL_REPLY_BYTES 92u           /* a reply buffer has at least as many bytes */
 #define SHAHFUREEL_ROW_NUMBERS 19u           /* numbers to a unit in a list of rows */
 #define SHAHFUREEL_ROWS_NUMBERS 608u         /* a list of rows for unpacking has at least as many numbers */
-#define SHAHFUREEL_ANSWERS 2u                /* a list of answers has at least as many numbers; shahfureel_view uses one */
+#define SHAHFUREEL_ANSWERS 2u                /* a list of answers has at least as many numbers; for view and floors one will do */
 #define SHAHFUREEL_JUDGE_ANSWERS 4u          /* and for shahfureel_judge as many */
+#define SHAHFUREEL_FLOORS_MAX 96u            /* a list of demands for shahfureel_floors has at most as many numbers */
 #define SHAHFUREEL_MULTIPLIER_MAX 65536u     /* hundredths of the currency per MWh */
 #define SHAHFUREEL_DEMAND_MAX 320000u        /* steps of 0.1 MW */
 #define SHAHFUREEL_RAMP_UNLIMITED 10000u     /* as up or down: no ramp limit that way */
@@ -89,7 +91,7 @@ extern "C" {
 /* ---- editions of the case file. Edition 1 is what shahfureel_pack writes and shahfureel_unpack reads. In edition 2 each unit
  * also has b1, a linear loss, from -10,000,000 to 10,000,000: at output p the unit loses b1 * p hundred-millionths of a step
  * more. It is a B0 coefficient times 100,000,000, and may be negative. Edition 1 is read as b1 = 0. shahfureel_dispatch,
- * shahfureel_price and shahfureel_judge take both editions.
+ * shahfureel_price, shahfureel_judge and shahfureel_floors take both editions.
  *
  * To make a file of edition 2: edition2_pack of examples/edition2.h and edition2.c takes rows as shahfureel_pack does, and a b1
  * for each. By hand, from the bytes that shahfureel_pack wrote: the first field becomes 2; into each body, behind its byte 25,
@@ -188,8 +190,8 @@ static inline uint16_t shahfureel_reply_output(const uint8_t *reply, size_t unit
 /* ---- refusals, and what to do
  *
  * The first that applies is given: dispatch 1 to 6, unit by unit 7, 8, 18, 9, 10, then 11; pricing 14, 1, then as dispatch from
- * 2 on; judging as dispatch, then 19; unpacking 1 to 6, unit by unit 7 to 10; packing 12, 5, row by row 7 to 10, then 13; the view
- * 1, 15, 16, 17.
+ * 2 on; judging as dispatch, then 19; floors 1, 20, 21, then as dispatch from 2 on; unpacking 1 to 6, unit by unit 7 to 10; packing
+ * 12, 5, row by row 7 to 10, then 13; the view 1, 15, 16, 17.
  *
  * 7 to 10 from packing: to find the row, pack the rows one by one, each as a list of its 19 numbers with demand 0. The row that
  * is refused is the one. From a call on a file: a file that packing has written is never refused with 2 to 10 or 18, if it is
@@ -205,7 +207,7 @@ static inline uint16_t shahfureel_reply_output(const uint8_t *reply, size_t unit
  * examples/modbus_server.c does. */
 
 enum shahfureel_refusal {
-    SHAHFUREEL_BUFFER_TOO_SHORT = 1,         /* lend a reply of 92 bytes, rows of 608 numbers, answers of 2, for judging of 4 */
+    SHAHFUREEL_BUFFER_TOO_SHORT = 1,         /* lend a reply of 92 bytes, rows of 608 numbers, answers of 2, for judging 4 */
     SHAHFUREEL_FILE_TOO_SHORT = 2,           /* the file has less than its 8 bytes of head: was it read whole? */
     SHAHFUREEL_EDITION_UNKNOWN = 3,          /* the first field is neither 1 nor 2, or for unpacking not 1: bytes swapped? */
     SHAHFUREEL_COUNT_OUT_OF_RANGE = 4,       /* the file names no unit, or more than 32 */
@@ -224,7 +226,9 @@ enum shahfureel_refusal {
     SHAHFUREEL_ANSWER_TOO_SHORT = 17,        /* lend an answer of 252 bytes */
     SHAHFUREEL_LOSSES_OUT_OF_RANGE = 18,     /* edition 2: b1 outside -10,000,000 to 10,000,000, or b1 + 19,999 * b at or above
                                                 100,000,000: near 10,000 steps the net would not grow with the output */
-    SHAHFUREEL_OUTPUT_COUNT_INVALID = 19     /* not one output to a unit of the file: give 0 for a unit that stands */
+    SHAHFUREEL_OUTPUT_COUNT_INVALID = 19,    /* not one output to a unit of the file: give 0 for a unit that stands */
+    SHAHFUREEL_DEMANDS_INVALID = 20,         /* more than 96 demands: ask in several calls; or one above 320,000: in steps? */
+    SHAHFUREEL_FLOORS_TOO_SHORT = 21         /* fewer places for floors than demands: lend one for each */
 };
 
 /* ---- calls. README.md, "The formats", has the case file byte by byte. */
@@ -279,6 +283,24 @@ uint32_t shahfureel_view(const uint8_t *reply, size_t reply_length, const uint8_
  * (outputs_length and answers_room count numbers: answers_room is at least 4.) */
 uint32_t shahfureel_judge(const uint8_t *file, size_t file_length, const uint32_t *outputs, size_t outputs_length,
                           int64_t *answers, size_t answers_room);
+
+/* Says what other demands cost at least. Takes a case file, of either edition, and up to 96 demands in steps of 0.1 MW, in any
+ * order. Returns 0 and writes a floor for each demand, floors[i] for demands[i], and answers[0], how many floors it wrote, which is
+ * demands_length; or returns a refusal.
+ *   - A floor is in millionths of the currency per hour, and never negative. No permitted outputs of these units that cover
+ *     demands[i] after losses cost less than floors[i]. It is a lower bound, not what a dispatch at that demand costs.
+ *   - The floors come from the prices of energy that shahfureel_dispatch evaluates for the file's own demand, so that one search
+ *     serves all of them. For the file's own demand the floor is cost - gap of the reply. For another it may be lower than cost -
+ *     gap of the reply to a file with that demand, never higher. Where a single price was evaluated, as always at demand 0 (the
+ *     reply says how many), all floors are alike.
+ *   - Of two demands the higher has no lower floor.
+ *   - A demand that nothing covers gets a number too: to learn whether it can be covered, dispatch a file with that demand.
+ *   - The file's own demand (its bytes 4 to 7) must be one that the units cover, or the call is refused with 11, as dispatch is.
+ *     The file is checked also where the list of demands is empty; then no floor is written, and answers[0] is 0.
+ * All buffers remain yours: file and demands are only read; floors past demands_length and answers past the first are untouched.
+ * (demands_length, floors_room and answers_room count numbers: floors_room is at least demands_length, answers_room at least 1.) */
+uint32_t shahfureel_floors(const uint8_t *file, size_t file_length, const uint32_t *demands, size_t demands_length,
+                           int64_t *floors, size_t floors_room, int64_t *answers, size_t answers_room);
 
 #ifdef __cplusplus
 }

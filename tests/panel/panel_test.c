@@ -21,18 +21,21 @@ static void expect(int holds, const char *call, const char *what)
 
 /* ---- buffers between guards. Sizes and places are written out here and below; `sizes_named` compares the header's with them. */
 
-enum { GUARD = 16, ALIGNMENTS = 8, FILLED = 0xA5, BYTES = 1608, NUMBERS = 608, ANSWERS = 5 };
+enum { GUARD = 16, ALIGNMENTS = 8, FILLED = 0xA5, BYTES = 1608, NUMBERS = 608, FLOORS = 98, ANSWERS = 5 };
 
 static uint8_t byte_space[GUARD + ALIGNMENTS + BYTES + GUARD];
 static uint32_t number_space[GUARD + NUMBERS + GUARD];
+static int64_t floor_space[GUARD + FLOORS + GUARD];
 static int64_t answer_space[GUARD + ANSWERS + GUARD];
 static uint32_t *const numbers = number_space + GUARD;
+static int64_t *const floor_list = floor_space + GUARD;
 static int64_t *const answers = answer_space + GUARD;
 
 static void fill(void)
 {
     memset(byte_space, FILLED, sizeof byte_space);
     memset(number_space, FILLED, sizeof number_space);
+    memset(floor_space, FILLED, sizeof floor_space);
     memset(answer_space, FILLED, sizeof answer_space);
 }
 
@@ -49,8 +52,13 @@ static int kept_but(const void *space, size_t size, const void *at, size_t lengt
 
 static int bytes_kept_but(const uint8_t *at, size_t length) { return kept_but(byte_space, sizeof byte_space, at, length); }
 static int numbers_kept_but(size_t count) { return kept_but(number_space, sizeof number_space, numbers, count * sizeof numbers[0]); }
+static int floors_kept_but(size_t count) { return kept_but(floor_space, sizeof floor_space, floor_list, count * sizeof(int64_t)); }
 static int answers_kept_but(size_t count) { return kept_but(answer_space, sizeof answer_space, answers, count * sizeof answers[0]); }
-static int all_kept(void) { return bytes_kept_but(byte_space, 0) && numbers_kept_but(0) && answers_kept_but(0); }
+
+static int all_kept(void)
+{
+    return bytes_kept_but(byte_space, 0) && numbers_kept_but(0) && floors_kept_but(0) && answers_kept_but(0);
+}
 
 /* ---- the specification's case U5: one unit with one zone, demand 5 */
 
@@ -626,6 +634,155 @@ static void judging(size_t a)
     judge_gives(u5(), U5_BYTES, seven, 2, a, 4, SHAHFUREEL_OUTPUT_COUNT_INVALID, "two outputs for one unit are 19");
 }
 
+/* ---- floors for other demands */
+
+static uint32_t floors(const uint8_t *from, size_t file_length, const uint32_t *asked, size_t demands_length, size_t alignment,
+                       size_t floors_room, size_t answers_room)
+{
+    fill();
+    uint8_t *file = copy_of(from, file_length, alignment);
+    uint32_t *demands = copy_of(asked, demands_length * sizeof asked[0], sizeof asked[0]);
+    uint32_t number =
+        shahfureel_floors(file, file_length, demands, demands_length, floor_list, floors_room, answers, answers_room);
+    release("floors", demands, asked, demands_length * sizeof asked[0], sizeof asked[0]);
+    release("floors", file, from, file_length, alignment);
+    return number;
+}
+
+static void floors_gives(const uint8_t *file, size_t file_length, const uint32_t *demands, size_t demands_length, size_t alignment,
+                         size_t floors_room, size_t answers_room, uint32_t number, const char *what)
+{
+    expect(floors(file, file_length, demands, demands_length, alignment, floors_room, answers_room) == number, "floors", what);
+    expect(all_kept(), "floors", "a refusal changes nothing");
+}
+
+/* with just room enough, and with more */
+static void floors_writes(const uint8_t *file, size_t file_length, const uint32_t *demands, size_t demands_length, size_t alignment,
+                          const int64_t *wanted, const char *what)
+{
+    for (size_t more = 0; more <= 2; more++) {
+        expect(floors(file, file_length, demands, demands_length, alignment, demands_length + more, 1 + more) == 0, "floors", what);
+        expect(answers[0] == (int64_t)demands_length && answers_kept_but(1), "floors", "it writes how many, and no other answer");
+        expect(memcmp(floor_list, wanted, demands_length * sizeof wanted[0]) == 0, "floors", what);
+        expect(floors_kept_but(demands_length), "floors", "it writes a floor for each demand and no other");
+        expect(bytes_kept_but(byte_space, 0) && numbers_kept_but(0), "floors", "it writes nothing else");
+    }
+}
+
+/* the floor for the file's own demand is cost - gap of its reply, and no floor falls as the demand rises */
+static void floors_of_reply(const uint8_t *file, size_t file_length, size_t a)
+{
+    uint8_t reply[92];
+    uint32_t own = (uint32_t)shahfureel_big_endian(file + 4, 4);
+    const uint32_t demands[6] = {0, own / 2, own, own + 1, own + 2, 320000};
+    expect(shahfureel_dispatch(file, file_length, reply, sizeof reply) >= 30, "floors", "a case to be dispatched");
+    expect(floors(file, file_length, demands, 6, a, 6, 1) == 0 && answers[0] == 6, "floors", "six floors");
+    expect(floor_list[2] == (int64_t)(shahfureel_reply_cost(reply) - shahfureel_reply_gap(reply)), "floors", "cost - gap");
+    expect(floor_list[0] >= 0, "floors", "none is negative");
+    for (size_t i = 1; i < 6; i++)
+        expect(floor_list[i - 1] <= floor_list[i], "floors", "none falls as the demand rises");
+}
+
+/* what U5's floors say of demands 0 to 12, and what dispatch proves at each of them that it answers */
+static void floors_of_demands(size_t a)
+{
+    static const uint32_t demands[13] = {0, 1, 2, 3, 4, 5, 6, 7, 8, 9, 10, 11, 12};
+    static const int64_t wanted[13] = {0,      7000,   23000,  39000,  56000,    77000,    98000,
+                                       119000, 143000, 168000, 200000, 65736000, 131272000};
+    floors_writes(u5(), U5_BYTES, demands, 13, a, wanted, "U5, 0 to 12");
+    for (uint8_t demand = 0; demand <= 10; demand++) {
+        uint8_t reply[92];
+        expect(shahfureel_dispatch(u5_but(7, demand), U5_BYTES, reply, sizeof reply) == 30, "floors", "U is dispatched");
+        expect(wanted[demand] <= (int64_t)(shahfureel_reply_cost(reply) - shahfureel_reply_gap(reply)), "floors",
+               "no floor is above what a dispatch at that demand proves");
+        floors_of_reply(u5_but(7, demand), U5_BYTES, a);
+    }
+    floors_writes(u5_but(7, 0), U5_BYTES, demands, 13, a, (const int64_t[13]){0}, "demand 0: a single price, all floors alike");
+    floors_writes(u5_but(7, 10), U5_BYTES, demands + 9, 3, a, (const int64_t[]){0, 200000, 65736000}, "demand 10: two prices");
+    floors_writes(u5_but(7, 1), U5_BYTES, demands, 4, a, (const int64_t[]){0, 12000, 24000, 39000}, "the best price is not the last");
+    floors_writes(u5_but(23, 1), U5_BYTES, demands + 4, 2, a, (const int64_t[]){56001, 77001}, "a floor is rounded up");
+}
+
+static void floors_of_edition_2(size_t a)
+{
+    static const uint32_t demands[5] = {4, 5, 6, 11, 12};
+    floors_writes(e2(), E2_BYTES, demands, 5, a, (const int64_t[]){49600, 67400, 86400, 200000, 65736000}, "b1 -10,000,000");
+    floors_writes(e2_with(0, 10000000), E2_BYTES, demands, 3, a, (const int64_t[]){65200, 88200, 111800}, "b1 10,000,000");
+    floors_writes(e2_with(0, 0), E2_BYTES, demands, 3, a, (const int64_t[]){56000, 77000, 98000}, "b1 0 is as edition 1");
+    floors_of_reply(e2(), E2_BYTES, a);
+    for (size_t i = 0; i < DAMAGED_2; i++) {
+        floors_gives(e2_damaged(i), E2_BYTES, demands, 5, a, 5, 1, damaged_2[i].number, damaged_2[i].what);
+        floors_gives(e2_damaged(i), E2_BYTES, demands, 0, a, 0, 1, damaged_2[i].number, "a file is checked also for no demand");
+        floors_gives(e2_damaged(i), E2_BYTES, demands, 5, a, 4, 1, SHAHFUREEL_FLOORS_TOO_SHORT, "21 comes before the file");
+    }
+}
+
+/* 96 demands and one more; U gives 10 at most, and from there on a floor rises by what a step costs at 65,536 */
+static void floors_of_many(size_t a)
+{
+    uint32_t demands[98];
+    for (uint32_t i = 0; i < 98; i++)
+        demands[i] = 10 + i;
+    expect(floors(u5(), U5_BYTES, demands, 96, a, 96, 1) == 0 && answers[0] == 96, "floors", "96 demands");
+    for (int64_t i = 0; i < 96; i++)
+        expect(floor_list[i] == 200000 + 65536000 * i, "floors", "each of 96 floors");
+    expect(floors_kept_but(96), "floors", "96 floors and no other");
+    floors_gives(u5(), U5_BYTES, demands, 97, a, 98, 1, SHAHFUREEL_DEMANDS_INVALID, "97 demands are 20");
+    floors_gives(u5(), U5_BYTES, demands, 98, a, 0, 1, SHAHFUREEL_DEMANDS_INVALID, "20 comes before 21");
+    floors_gives(u5(), U5_BYTES, demands, 96, a, 95, 1, SHAHFUREEL_FLOORS_TOO_SHORT, "95 places for 96 demands are 21");
+    demands[95] = 320001;
+    floors_gives(u5(), U5_BYTES, demands, 96, a, 96, 1, SHAHFUREEL_DEMANDS_INVALID, "the last of 96 demands is looked at");
+}
+
+/* demands and places that are refused, and what they come before */
+static void floors_refused(size_t a)
+{
+    static const uint32_t great[3] = {5, 7, 320001}, first[3] = {320001, 5, 7}, greatest[1] = {UINT32_MAX};
+    floors_gives(u5(), U5_BYTES, great, 3, a, 3, 1, SHAHFUREEL_DEMANDS_INVALID, "320,001 is 20");
+    floors_gives(u5(), U5_BYTES, first, 3, a, 3, 1, SHAHFUREEL_DEMANDS_INVALID, "320,001 is 20 also as the first");
+    floors_gives(u5(), U5_BYTES, greatest, 1, a, 1, 1, SHAHFUREEL_DEMANDS_INVALID, "a demand is unsigned");
+    floors_gives(u5(), U5_BYTES, great, 3, a, 2, 1, SHAHFUREEL_DEMANDS_INVALID, "20 comes before 21");
+    floors_gives(u5(), 0, great, 3, a, 3, 1, SHAHFUREEL_DEMANDS_INVALID, "20 comes before 2");
+    floors_gives(u5(), U5_BYTES, great, 2, a, 1, 1, SHAHFUREEL_FLOORS_TOO_SHORT, "a place too few is 21");
+    floors_gives(u5(), U5_BYTES, great, 1, a, 0, 1, SHAHFUREEL_FLOORS_TOO_SHORT, "no place is 21");
+    floors_gives(u5(), 0, great, 2, a, 1, 1, SHAHFUREEL_FLOORS_TOO_SHORT, "21 comes before 2");
+    floors_gives(u5(), U5_BYTES, great, 2, a, 2, 0, SHAHFUREEL_BUFFER_TOO_SHORT, "no answer is 1");
+    floors_gives(u5(), U5_BYTES, great, 3, a, 3, 0, SHAHFUREEL_BUFFER_TOO_SHORT, "1 comes before 20");
+    floors_gives(u5(), U5_BYTES, great, 2, a, 1, 0, SHAHFUREEL_BUFFER_TOO_SHORT, "1 comes before 21");
+    floors_gives(u5(), 0, great, 0, a, 0, 0, SHAHFUREEL_BUFFER_TOO_SHORT, "1 comes before 2");
+    floors_gives(u5(), 0, great, 2, a, 2, 1, SHAHFUREEL_FILE_TOO_SHORT, "an empty file is 2");
+    floors_gives(u5(), 7, great, 0, a, 0, 1, SHAHFUREEL_FILE_TOO_SHORT, "a file of 7 bytes is 2 also for no demand");
+    floors_gives(u5(), U5_BYTES - 1, great, 2, a, 2, 1, SHAHFUREEL_CONTENTS_INVALID, "a cut file is 6");
+    for (size_t i = 0; i < DAMAGED; i++) {
+        const uint8_t *file = u5_but(damaged[i].at, damaged[i].value);
+        floors_gives(file, U5_BYTES, great, 2, a, 2, 1, damaged[i].number, damaged[i].what);
+        floors_gives(file, U5_BYTES, great, 0, a, 0, 1, damaged[i].number, "a file is checked also for no demand");
+        floors_gives(file, U5_BYTES, great, 3, a, 3, 1, SHAHFUREEL_DEMANDS_INVALID, "20 comes before the file");
+        floors_gives(file, U5_BYTES, great, 2, a, 1, 1, SHAHFUREEL_FLOORS_TOO_SHORT, "21 comes before the file");
+    }
+    floors_gives(u5_but(7, 11), U5_BYTES, great, 2, a, 2, 1, SHAHFUREEL_NO_ALLOCATION, "a demand of 11 is 11");
+    floors_gives(u5_but(7, 11), U5_BYTES, great, 0, a, 0, 1, SHAHFUREEL_NO_ALLOCATION, "it is 11 also for no demand");
+    floors_gives(u5_but(7, 11), U5_BYTES, great, 3, a, 3, 1, SHAHFUREEL_DEMANDS_INVALID, "20 comes before 11");
+    floors_gives(u5_but(7, 11), U5_BYTES, great, 2, a, 1, 1, SHAHFUREEL_FLOORS_TOO_SHORT, "21 comes before 11");
+}
+
+static void flooring(size_t a)
+{
+    static const uint32_t demands[5] = {0, 5, 7, 10, 320000}, mixed[7] = {10, 0, 7, 7, 5, 0, 10};
+    static const int64_t wanted[5] = {0, 77000, 119000, 200000, INT64_C(20970864840000)};
+    uint8_t file[BYTES];
+    floors_writes(u5(), U5_BYTES, demands, 5, a, wanted, "U5");
+    floors_writes(u5(), U5_BYTES, demands + 1, 1, a, wanted + 1, "U5, its own demand");
+    floors_writes(u5(), U5_BYTES, mixed, 7, a, (const int64_t[]){200000, 0, 119000, 119000, 77000, 0, 200000}, "in any order");
+    floors_writes(u5(), U5_BYTES, demands, 0, a, wanted, "no demand");
+    floors_of_demands(a);
+    floors_of_edition_2(a);
+    floors_of_many(a);
+    for (size_t k = 0; k < LOWERED; k++)
+        floors_of_reply(file, lowered_file(k, file, sizeof file), a);
+    floors_refused(a);
+}
+
 /* ---- packing */
 
 static uint32_t pack(uint32_t demand, const uint32_t *from, size_t rows_length, size_t alignment, size_t file_room)
@@ -787,7 +944,7 @@ static void sizes_named(void)
     expect(SHAHFUREEL_FILE_BYTES_MAX == BYTES && SHAHFUREEL_ROWS_NUMBERS == NUMBERS, "names", "1,608 bytes, 608 numbers");
     expect(SHAHFUREEL_ROW_NUMBERS == ROW && SHAHFUREEL_ROW_EDGES + 8 == ROW, "names", "19 numbers, the last 8 of them edges");
     expect(SHAHFUREEL_REPLY_BYTES == 92 && SHAHFUREEL_ANSWERS == 2, "names", "92 bytes, 2 answers");
-    expect(SHAHFUREEL_JUDGE_ANSWERS == 4, "names", "4 answers of judging");
+    expect(SHAHFUREEL_JUDGE_ANSWERS == 4 && SHAHFUREEL_FLOORS_MAX == 96, "names", "4 answers of judging, 96 demands for floors");
     expect(SHAHFUREEL_UNITS_MAX == 32 && SHAHFUREEL_DEMAND_MAX == 320000, "names", "32 units, 320,000 steps");
     expect(SHAHFUREEL_MULTIPLIER_MAX == 65536 && SHAHFUREEL_LENGTH_MIN == sizeof U5_REPLY, "names", "65,536, 30");
     expect(SHAHFUREEL_REPLY_OUTPUTS_AT == SHAHFUREEL_REPLY_OUTPUTS, "names", "the former name of the outputs' place");
@@ -816,6 +973,7 @@ static void longest_reply(const uint8_t *file, size_t length)
     for (uint32_t i = 0; i < SHAHFUREEL_UNITS_MAX; i++)
         expect(shahfureel_reply_output(reply, i) == 0x102, "names", "each gives its least output");
     judging_replies(file, length, 1);
+    floors_of_reply(file, length, 1);
 }
 
 /* 32 times V: the longest file of edition 1 */
@@ -945,6 +1103,7 @@ int main(void)
         pricing(alignment);
         viewing(alignment);
         judging(alignment);
+        flooring(alignment);
         packing(alignment);
         unpacking(alignment);
     }

@@ -1,7 +1,8 @@
 //! What the counts of numbers do not tell apart: the branches of the rules on editions and on 18, and how often calls came to each of
-//! them and of those of `lowered` and `judged`.
+//! them and of those of `lowered`, `judged` and `floored`.
 
 use crate::calls::Call;
+use crate::floored;
 use crate::judged;
 use crate::lowered;
 use crate::solver::{self, Refused, Unit};
@@ -132,12 +133,15 @@ impl Seen<'_> {
 /// Where the counts of `judged` start, behind those of `lowered`.
 const JUDGED: usize = BRANCHES.len() + lowered::BRANCHES.len();
 
-/// How often calls came to each branch: those above, then those of `lowered` and of `judged`.
-pub struct Reached([u64; JUDGED + judged::BRANCHES.len()]);
+/// Where those of `floored` start.
+const FLOORED: usize = JUDGED + judged::BRANCHES.len();
+
+/// How often calls came to each branch: those above, then those of `lowered`, of `judged` and of `floored`.
+pub struct Reached([u64; FLOORED + floored::BRANCHES.len()]);
 
 impl Default for Reached {
     fn default() -> Reached {
-        Reached([0; JUDGED + judged::BRANCHES.len()])
+        Reached([0; FLOORED + floored::BRANCHES.len()])
     }
 }
 
@@ -151,6 +155,7 @@ impl Reached {
             Call::Price { file, .. } => self.count_file(file, false, refused),
             Call::Unpack { file, .. } => self.count_file(file, true, refused),
             Call::Judge { file, outputs } => self.count_judged(file, outputs, refused),
+            Call::Floors { file, demands, room } => self.count_floored(file, demands, *room, refused),
             Call::Pack { .. } | Call::View { .. } => {}
         }
     }
@@ -178,11 +183,18 @@ impl Reached {
         }
     }
 
+    fn count_floored(&mut self, file: &[u8], demands: &[u32], room: usize, refused: Option<Refused>) {
+        let seen = floored::Seen::new(file, demands, room, refused);
+        for (count, (_, reached)) in self.0[FLOORED..].iter_mut().zip(floored::BRANCHES) {
+            *count += u64::from(reached(&seen));
+        }
+    }
+
     /// The name of each branch, and its count.
     fn counts(&self) -> impl Iterator<Item = (&'static str, u64)> + '_ {
         let own = BRANCHES.iter().map(|branch| branch.0);
         let others = lowered::BRANCHES.iter().map(|branch| branch.0).chain(judged::BRANCHES.iter().map(|branch| branch.0));
-        own.chain(others).zip(self.0.iter().copied())
+        own.chain(others).chain(floored::BRANCHES.iter().map(|branch| branch.0)).zip(self.0.iter().copied())
     }
 
     pub fn lines(&self) -> Vec<String> {

@@ -1,10 +1,10 @@
-//! Compares the library's six C calls with the second solver on fresh cases: `bulk SECONDS [SEED]`, or `bulk --case SEED` to
+//! Compares the library's seven C calls with the second solver on fresh cases: `bulk SECONDS [SEED]`, or `bulk --case SEED` to
 //! repeat one case. Answers and whole buffers have to be equal, with what lies before and behind the lent parts.
 
 use second_solver::branches::Reached;
 use second_solver::calls::{bytes_of, Call};
 use second_solver::generate::kinds;
-use second_solver::promise::{self, Judgements};
+use second_solver::promise::{self, Floors, Judgements};
 use second_solver::random::Random;
 use second_solver::solver::{self, Judged, Refused};
 use second_solver::tally::{Tally, POSSIBLE_IN_C};
@@ -43,6 +43,16 @@ extern "C" {
         file_length: usize,
         outputs: *const u32,
         outputs_length: usize,
+        answers: *mut i64,
+        answers_room: usize,
+    ) -> u32;
+    fn shahfureel_floors(
+        file: *const u8,
+        file_length: usize,
+        demands: *const u32,
+        demands_length: usize,
+        floors: *mut i64,
+        floors_room: usize,
         answers: *mut i64,
         answers_room: usize,
     ) -> u32;
@@ -97,6 +107,7 @@ struct Buffers {
     numbers_in: Lent<u32>,
     bytes_out: Lent<u8>,
     rows_out: Lent<u32>,
+    floors_out: Lent<i64>,
     answers: Lent<i64>,
 }
 
@@ -107,14 +118,16 @@ impl Buffers {
             Call::Pack { rows, .. } => (&[], &[], rows),
             Call::View { reply, request, .. } => (reply, request, &[]),
             Call::Judge { file, outputs } => (file, &[], outputs),
+            Call::Floors { file, demands, .. } => (file, &[], demands),
         };
         let (bytes_out, rows_out) = match call {
             Call::Dispatch { room, .. } => (some_room(*room, 92, random), 0),
             Call::Pack { room, .. } => (some_room(*room, *room, random), 0),
             Call::Unpack { room, .. } => (0, some_room(*room, 608, random)),
             Call::View { room, .. } => (some_room(*room, 252, random), 0),
-            Call::Price { .. } | Call::Judge { .. } => (0, 0),
+            Call::Price { .. } | Call::Judge { .. } | Call::Floors { .. } => (0, 0),
         };
+        let floors_out = if let Call::Floors { room, .. } = call { *room } else { 0 };
         let answers = some_answers(call, random);
         Buffers {
             bytes_in: Lent::holding(bytes, random, random_byte),
@@ -122,6 +135,7 @@ impl Buffers {
             numbers_in: Lent::holding(numbers, random, random_u32),
             bytes_out: Lent::random(bytes_out, random, random_byte),
             rows_out: Lent::random(rows_out, random, random_u32),
+            floors_out: Lent::random(floors_out, random, random_i64),
             answers: Lent::random(answers, random, random_i64),
         }
     }
@@ -134,6 +148,7 @@ fn some_answers(call: &Call, random: &mut Random) -> usize {
     }
     match call {
         Call::Judge { .. } => random.pick(&[0, 3, 4, 4, 4, 4, 4, 4, 4, 4, 4, 4, 5, 9]),
+        Call::Floors { .. } => random.pick(&[0, 1, 1, 1, 1, 1, 1, 1, 1, 2, 9]),
         _ => random.pick(&[0, 1, 2, 2, 2, 2, 2, 2, 2, 2, 3, 9]),
     }
 }
@@ -150,7 +165,7 @@ fn some_room(own: usize, needed: usize, random: &mut Random) -> usize {
     random.pick(&[0, needed.saturating_sub(1), needed, needed + 1, any])
 }
 
-/// The call, rarely with an input that is longer by what 16 bits cannot hold.
+/// The call, rarely with an input that is longer by what 16 bits cannot hold; at times with another room for floors.
 fn sometimes_padded(mut call: Call, random: &mut Random) -> Call {
     match &mut call {
         Call::Dispatch { file, .. } | Call::Price { file, .. } | Call::Unpack { file, .. } if random.chance(200) => {
@@ -161,6 +176,9 @@ fn sometimes_padded(mut call: Call, random: &mut Random) -> Call {
         Call::View { request, .. } if random.chance(200) => request.resize(request.len() + LONG, 0),
         Call::Judge { file, .. } if random.chance(200) => file.resize(file.len() + LONG, 0),
         Call::Judge { outputs, .. } if random.chance(200) => outputs.resize(outputs.len() + LONG, 0),
+        Call::Floors { file, .. } if random.chance(200) => file.resize(file.len() + LONG, 0),
+        Call::Floors { demands, .. } if random.chance(200) => demands.resize(demands.len() + LONG, 0),
+        Call::Floors { demands, room, .. } if random.chance(4) => *room = some_room(*room, demands.len(), random),
         _ => {}
     }
     call
@@ -174,6 +192,7 @@ fn library_answer(call: &Call, buffers: &mut Buffers) -> u32 {
     let numbers = buffers.numbers_in.part();
     let bytes_out = buffers.bytes_out.part();
     let rows_out = buffers.rows_out.part();
+    let floors_out = buffers.floors_out.part();
     let answers = buffers.answers.part();
     // Each pointer is that of a part of a list that lives on, with the part's length; no two parts overlap.
     unsafe {
@@ -213,6 +232,16 @@ fn library_answer(call: &Call, buffers: &mut Buffers) -> u32 {
                 answers.as_mut_ptr(),
                 answers.len(),
             ),
+            Call::Floors { .. } => shahfureel_floors(
+                bytes.as_mut_ptr(),
+                bytes.len(),
+                numbers.as_mut_ptr(),
+                numbers.len(),
+                floors_out.as_mut_ptr(),
+                floors_out.len(),
+                answers.as_mut_ptr(),
+                answers.len(),
+            ),
         }
     }
 }
@@ -227,6 +256,9 @@ fn solver_answer(call: &Call, buffers: &mut Buffers) -> u32 {
             solver::panel_view(reply, request, buffers.bytes_out.part(), buffers.answers.part())
         }
         Call::Judge { file, outputs } => solver::panel_judge(file, outputs, buffers.answers.part()),
+        Call::Floors { file, demands, .. } => {
+            solver::panel_floors(file, demands, buffers.floors_out.part(), buffers.answers.part())
+        }
     }
 }
 
@@ -234,7 +266,7 @@ fn solver_answer(call: &Call, buffers: &mut Buffers) -> u32 {
 fn refusal(call: &Call, number: u32) -> Option<Refused> {
     let answered = match call {
         Call::Dispatch { .. } | Call::Pack { .. } => number >= 30,
-        Call::Price { .. } | Call::Unpack { .. } | Call::View { .. } | Call::Judge { .. } => number == 0,
+        Call::Price { .. } | Call::Unpack { .. } | Call::View { .. } | Call::Judge { .. } | Call::Floors { .. } => number == 0,
     };
     if answered {
         None
@@ -263,8 +295,8 @@ fn compare(call: &Call, random: &mut Random) -> Result<(u32, Buffers), String> {
 fn difference(call: &Call, library: (u32, &Buffers), solver: (u32, &Buffers)) -> String {
     let mut text = format!("{}\n", input_text(call));
     text += &format!(
-        "lent: {} bytes, {} numbers of rows, {} answers\n",
-        library.1.bytes_out.length, library.1.rows_out.length, library.1.answers.length
+        "lent: {} bytes, {} numbers of rows, {} floors, {} answers\n",
+        library.1.bytes_out.length, library.1.rows_out.length, library.1.floors_out.length, library.1.answers.length
     );
     text += &format!("the library returns {}, the solver {}\n", library.0, solver.0);
     text += &buffer_difference("input bytes", &library.1.bytes_in, &solver.1.bytes_in);
@@ -272,6 +304,7 @@ fn difference(call: &Call, library: (u32, &Buffers), solver: (u32, &Buffers)) ->
     text += &buffer_difference("input numbers", &library.1.numbers_in, &solver.1.numbers_in);
     text += &buffer_difference("bytes", &library.1.bytes_out, &solver.1.bytes_out);
     text += &buffer_difference("rows", &library.1.rows_out, &solver.1.rows_out);
+    text += &buffer_difference("floors", &library.1.floors_out, &solver.1.floors_out);
     text += &buffer_difference("answers", &library.1.answers, &solver.1.answers);
     text
 }
@@ -284,6 +317,7 @@ fn input_text(call: &Call) -> String {
         Call::Unpack { file, .. } => format!("unpack: file {}", hex(file)),
         Call::View { reply, request, .. } => format!("view: request {}, reply {}", hex(request), hex(reply)),
         Call::Judge { file, outputs } => format!("judge: outputs {:?}, file {}", outputs, hex(file)),
+        Call::Floors { file, demands, .. } => format!("floors: demands {:?}, file {}", demands, hex(file)),
     }
 }
 
@@ -327,6 +361,7 @@ struct Run {
     cases: u64,
     promises: u64,
     judgements: Judgements,
+    floors: Floors,
 }
 
 impl Run {
@@ -348,7 +383,8 @@ impl Run {
         Ok(())
     }
 
-    /// Checks a dispatch of the library against demand 3, or a judgement against rules 19.1 to 19.6, if the case is small.
+    /// Checks a dispatch of the library against demand 3, or a judgement or floors against what is promised of them, if the case is
+    /// small.
     fn check_promise(&mut self, call: &Call, number: u32, buffers: &mut Buffers) -> Result<(), String> {
         let refused = refusal(call, number);
         match call {
@@ -362,6 +398,11 @@ impl Run {
                 let answer = refused.map_or_else(|| Ok(judged(buffers.answers.part())), Err);
                 self.judgements.check(file, outputs, answer)
             }
+            Call::Floors { file, demands, .. } if is_small(file, refused)? => {
+                let count = buffers.answers.part().first().map_or(0, |count| *count as usize);
+                let list = buffers.floors_out.part();
+                self.floors.check(file, demands, refused.map_or_else(|| Ok(&list[..count]), Err))
+            }
             _ => Ok(()),
         }
     }
@@ -374,7 +415,9 @@ impl Run {
     }
 
     fn print(&self) {
-        let by_brute_force = format!("{} dispatches and {} judgements by brute force", self.promises, self.judgements.checked);
+        let (dispatches, judgements, floors) = (self.promises, self.judgements.checked, self.floors.checked);
+        let by_brute_force =
+            format!("{} dispatches, {} judgements and {} floors by brute force", dispatches, judgements, floors);
         println!("{} calls of {} cases compared, {}", self.tally.total(), self.cases, by_brute_force);
         for line in self.tally.lines().iter().chain(&self.reached.lines()) {
             println!("{}", line);

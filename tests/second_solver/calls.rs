@@ -1,4 +1,4 @@
-//! The six calls of the specification, with their inputs and the size of the buffer that is lent.
+//! The seven calls of the specification, with their inputs and the size of the buffer that is lent.
 
 #[derive(Clone, Debug)]
 pub enum Call {
@@ -8,10 +8,11 @@ pub enum Call {
     Unpack { file: Vec<u8>, room: usize },
     View { reply: Vec<u8>, request: Vec<u8>, room: usize },
     Judge { file: Vec<u8>, outputs: Vec<u32> },
+    Floors { file: Vec<u8>, demands: Vec<u32>, room: usize },
 }
 
 /// The names of the calls, in the order of their indices.
-pub const NAMES: [&str; 6] = ["dispatch", "price", "pack", "unpack", "view", "judge"];
+pub const NAMES: [&str; 7] = ["dispatch", "price", "pack", "unpack", "view", "judge", "floors"];
 
 impl Call {
     pub fn index(&self) -> usize {
@@ -22,6 +23,7 @@ impl Call {
             Call::Unpack { .. } => 3,
             Call::View { .. } => 4,
             Call::Judge { .. } => 5,
+            Call::Floors { .. } => 6,
         }
     }
 

@@ -2,6 +2,7 @@
 
 use crate::calls::Call;
 use crate::damage;
+use crate::demands;
 use crate::outputs;
 use crate::random::Random;
 use crate::solver::{self, Case, Unit};
@@ -23,7 +24,7 @@ fn kind(name: &'static str, times: usize, make: fn(&mut Random) -> Vec<Call>) ->
 }
 
 pub fn kinds() -> Vec<Kind> {
-    [accepted_kinds(), damaged_kinds(), view_kinds(), judged_kinds()].concat()
+    [accepted_kinds(), damaged_kinds(), view_kinds(), judged_kinds(), floored_kinds()].concat()
 }
 
 /// Kinds of accepted files: some of each are dispatched.
@@ -73,7 +74,8 @@ pub fn accepted_kinds() -> Vec<Kind> {
     ]
 }
 
-fn damaged_kinds() -> Vec<Kind> {
+/// Kinds of calls that are refused, most of them for their file or rows.
+pub fn damaged_kinds() -> Vec<Kind> {
     vec![
         kind("fields-at-limits", 1, |random| damage::fields_at_limits(random, 1)),
         kind("head-at-limits", 1, |random| damage::head_at_limits(random, 1)),
@@ -108,6 +110,15 @@ fn judged_kinds() -> Vec<Kind> {
         kind("judged-vectors", 1, outputs::judged_vectors),
         kind("judged-outputs", 40, outputs::judged_outputs),
         kind("judged-lists", 1, outputs::judged_lists),
+    ]
+}
+
+fn floored_kinds() -> Vec<Kind> {
+    vec![
+        kind("floored-vectors", 1, demands::floored_vectors),
+        kind("floored-demands", 60, demands::floored_demands),
+        kind("floored-lists", 1, demands::floored_lists),
+        kind("floored-damage", 12, demands::floored_damage),
     ]
 }
 
@@ -254,7 +265,7 @@ fn maybe_set_window(unit: &mut Unit, random: &mut Random) {
 }
 
 /// The whole steps that the greatest permitted outputs give after losses.
-fn capacity(units: &[Unit]) -> i128 {
+pub fn capacity(units: &[Unit]) -> i128 {
     let greatest_net = |unit: &Unit| solver::offers(unit).last().map_or(0, |offer| offer.net);
     units.iter().map(greatest_net).sum::<i128>() / solver::NET_OF_A_STEP
 }

@@ -3,6 +3,8 @@
 pub mod branches;
 pub mod calls;
 pub mod damage;
+pub mod demands;
+pub mod floored;
 pub mod generate;
 pub mod judged;
 pub mod lowered;

@@ -18,7 +18,7 @@ fn numbers(outputs: &[i128]) -> Vec<u32> {
 }
 
 /// A case of any accepted kind, in either edition; each fourth has ramps in all units.
-fn any_case(random: &mut Random) -> Case {
+pub fn any_case(random: &mut Random) -> Case {
     let calls = if random.chance(4) {
         let edition = random.pick(&solver::EDITIONS);
         ramps_that_cut_zones(random, edition)
@@ -130,7 +130,7 @@ fn about_the_demand(case: &Case, random: &mut Random) -> Vec<Call> {
 // ---- lengths
 
 /// A case of several units that dispatch answers, and its own outputs.
-fn answered_case(edition: i128, random: &mut Random) -> (Case, Vec<u32>) {
+pub fn answered_case(edition: i128, random: &mut Random) -> (Case, Vec<u32>) {
     loop {
         let case = damage::base(random, edition);
         if let Ok(reply) = solver::solve(&case) {

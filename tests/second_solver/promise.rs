@@ -1,5 +1,5 @@
-//! Demand 3, and what is promised of judgements, by brute force: all allocations of a small case, and all multipliers from 0 to
-//! 65,536.
+//! Demand 3, and what is promised of judgements and of floors for other demands, by brute force: all allocations of a small case, and
+//! all multipliers from 0 to 65,536.
 
 use crate::hex;
 use crate::solver::{self, Allocation, Case, Judged, Offer, Refused, Reply};
@@ -258,6 +258,115 @@ impl Judgements {
         self.checked += 1;
         broken.map_or(Ok(()), |sentence| {
             Err(format!("not so: {}\nfile {}\noutputs {:?}\nanswer {:?}", sentence, hex(file), outputs, answer))
+        })
+    }
+}
+
+// ---- floors for other demands
+
+/// What brute force finds of a case that dispatch answers: the permitted outputs, the multipliers that the bisection evaluates, and
+/// the greatest floor of all multipliers for the case's own demand.
+struct Evaluated {
+    offers: Vec<Vec<Offer>>,
+    multipliers: Vec<i128>,
+    greatest_floor: i128,
+    reply: Reply,
+}
+
+impl Evaluated {
+    /// None where nothing covers the case's own demand.
+    fn of(case: &Case) -> Option<Evaluated> {
+        let offers: Vec<Vec<Offer>> = case.units.iter().map(solver::offers).collect();
+        let demand_net = solver::NET_OF_A_STEP * case.demand;
+        cheapest_covering(&offers, demand_net)?;
+        let trials = all_trials(&offers, demand_net);
+        let multipliers = evaluated(&trials);
+        let reply = solver::solve(case).expect("a reply, as something covers");
+        Some(Evaluated { offers, multipliers, greatest_floor: greatest_floor(&trials), reply })
+    }
+
+    /// The first sentence that these floors break.
+    fn broken_sentence(&self, own: i128, demands: &[u32], floors: &[i64]) -> Option<&'static str> {
+        if demands.len() != floors.len() {
+            return Some("there is a floor for each demand");
+        }
+        let pairs: Vec<(i128, i128)> =
+            demands.iter().zip(floors).map(|(d, floor)| (i128::from(*d), i128::from(*floor))).collect();
+        pairs.iter().find_map(|(demand, floor)| self.broken_at(own, *demand, *floor)).or_else(|| broken_order(&pairs))
+    }
+
+    fn broken_at(&self, own: i128, demand: i128, floor: i128) -> Option<&'static str> {
+        let demand_net = solver::NET_OF_A_STEP * demand;
+        // the floor of a multiplier in a case that has this demand
+        let floor_of = |multiplier: &i128| trial(&self.offers, demand_net, *multiplier).floor;
+        let cheapest = cheapest_covering(&self.offers, demand_net);
+        let of_reply = self.reply.cost - self.reply.gap;
+        let sentences = [
+            (self.multipliers.iter().map(floor_of).max() == Some(floor), "a floor is the greatest of those evaluated"),
+            (cheapest.map_or(true, |cheapest| cheapest >= floor), "nobody covers a demand for less than its floor"),
+            (demand != own || floor == of_reply, "the floor for the case's own demand is cost - gap"),
+            (demand != own || floor == self.greatest_floor, "the floor for the case's own demand is the greatest of all"),
+            (floor >= 0, "no floor is negative"),
+        ];
+        sentences.iter().find(|(holds, _)| !holds).map(|(_, sentence)| *sentence)
+    }
+}
+
+/// The multipliers that the bisection evaluates, in order.
+fn evaluated(trials: &[Trial]) -> Vec<i128> {
+    let top = trials.len() - 1;
+    if trials[0].surplus >= 0 {
+        return vec![0];
+    }
+    let mut multipliers = vec![0, top as i128];
+    if trials[top].surplus > 0 {
+        let (mut low, mut high) = (0, top);
+        while high - low > 1 && trials[(low + high) / 2].surplus != 0 {
+            let middle = (low + high) / 2;
+            multipliers.push(middle as i128);
+            (low, high) = if trials[middle].surplus > 0 { (low, middle) } else { (middle, high) };
+        }
+        if high - low > 1 {
+            multipliers.push((low + high) as i128 / 2);
+        }
+    }
+    multipliers
+}
+
+fn broken_order(pairs: &[(i128, i128)]) -> Option<&'static str> {
+    let mut sorted = pairs.to_vec();
+    sorted.sort_unstable();
+    let rises = sorted.windows(2).all(|two| two[0].1 <= two[1].1 && (two[0].0 < two[1].0 || two[0].1 == two[1].1));
+    if rises {
+        None
+    } else {
+        Some("no floor falls as the demand rises")
+    }
+}
+
+/// Checks floors of small cases. It keeps what it found of the last file, as the lists for one file follow one another.
+#[derive(Default)]
+pub struct Floors {
+    last: Option<(Vec<u8>, Option<Evaluated>)>,
+    pub checked: u64,
+}
+
+impl Floors {
+    /// Checks every sentence for an accepted file, a list that is not refused and the answer. An error has the sentence that fails,
+    /// and the call.
+    pub fn check(&mut self, file: &[u8], demands: &[u32], answer: Result<&[i64], Refused>) -> Result<(), String> {
+        let case = solver::decode(file).expect("an accepted file");
+        let last = self.last.take().filter(|(of_file, _)| of_file == file);
+        let evaluated = last.map_or_else(|| Evaluated::of(&case), |(_, evaluated)| evaluated);
+        let broken = match (&evaluated, answer) {
+            (None, Err(Refused(11))) => None,
+            (Some(evaluated), Ok(floors)) => evaluated.broken_sentence(case.demand, demands, floors),
+            _ => Some("11 exactly when nothing covers"),
+        };
+        self.last = Some((file.to_vec(), evaluated));
+        self.checked += demands.len() as u64;
+        broken.map_or(Ok(()), |sentence| {
+            Err(format!("not so: {}\nfile {}\ndemands {:?}\nanswer {:?}", sentence, hex(file), demands, answer))
         })
     }
 }

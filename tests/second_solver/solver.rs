@@ -429,6 +429,12 @@ impl Search {
         self.visits.iter().map(|(_, evaluation)| floor(evaluation.dual)).max().expect("an evaluation")
     }
 
+    /// The greatest floor that these evaluations give a demand which is so many steps above the case's own, or below it.
+    pub fn greatest_floor_moved(&self, steps: i128) -> i128 {
+        let moved = |(multiplier, evaluation): &(i128, Evaluation)| floor(evaluation.dual + multiplier * NET_OF_A_STEP * steps);
+        self.visits.iter().map(moved).max().expect("an evaluation")
+    }
+
     /// Evaluates a multiplier and takes its lowered choices as the best if they cover; tells their surplus.
     fn visit(&mut self, problem: &Problem, multiplier: i128) -> i128 {
         let evaluation = problem.evaluate(multiplier);
@@ -566,6 +572,22 @@ pub fn judge(file: &[u8], outputs: &[u32]) -> Result<Judged, Refused> {
     }))
 }
 
+// ---- floors for other demands
+
+/// Writes for each of some demands the greatest floor that the multipliers evaluated for the case's own give it; the answer is how
+/// many floors that are.
+pub fn floors(file: &[u8], demands: &[u32], floors: &mut [i64]) -> Result<usize, Refused> {
+    refuse_if(demands.len() > 96 || demands.iter().any(|demand| *demand > 320_000), 20)?;
+    refuse_if(floors.len() < demands.len(), 21)?;
+    let case = decode(file)?;
+    let search = search(&problem(&case)?);
+    for (demand, floor) in demands.iter().zip(floors) {
+        let greatest = search.greatest_floor_moved(i128::from(*demand) - case.demand);
+        *floor = i64::try_from(greatest).expect("a floor of 64 bits");
+    }
+    Ok(demands.len())
+}
+
 // ---- the Modbus view
 
 fn is_reply(bytes: &[u8]) -> bool {
@@ -678,6 +700,14 @@ pub fn panel_judge(file: &[u8], outputs: &[u32], answers: &mut [i64]) -> u32 {
             Judged::NotAccepted => [0; 4],
         };
         answers[..4].copy_from_slice(&numbers.map(|number| i64::try_from(number).expect("a number of 64 bits")));
+        0
+    }))
+}
+
+pub fn panel_floors(file: &[u8], demands: &[u32], list: &mut [i64], answers: &mut [i64]) -> u32 {
+    let written = refuse_if(answers.is_empty(), 1).and_then(|()| floors(file, demands, list));
+    number_of(written.map(|count| {
+        answers[0] = count as i64;
         0
     }))
 }

@@ -13,9 +13,10 @@ pub const POSSIBLE: [&[usize]; CALLS] = [
     &[1, 2, 3, 4, 5, 6, 7, 8, 9, 10],
     &[15, 16, 17],
     &[2, 3, 4, 5, 6, 7, 8, 9, 10, 11, 18, 19],
+    &[2, 3, 4, 5, 6, 7, 8, 9, 10, 11, 18, 20, 21],
 ];
 
-/// The same of the calls in C, where a list too short for the answers gives pricing, the view and judging the number 1 too.
+/// The same of the calls in C, where a list too short for the answers gives pricing, the view, judging and floors the number 1 too.
 pub const POSSIBLE_IN_C: [&[usize]; CALLS] = [
     POSSIBLE[0],
     &[1, 2, 3, 4, 5, 6, 7, 8, 9, 10, 11, 14, 18],
@@ -23,11 +24,12 @@ pub const POSSIBLE_IN_C: [&[usize]; CALLS] = [
     POSSIBLE[3],
     &[1, 15, 16, 17],
     &[1, 2, 3, 4, 5, 6, 7, 8, 9, 10, 11, 18, 19],
+    &[1, 2, 3, 4, 5, 6, 7, 8, 9, 10, 11, 18, 20, 21],
 ];
 
 /// Counts by call and number; number 0 stands for an answer.
 #[derive(Default)]
-pub struct Tally([[u64; 20]; CALLS]);
+pub struct Tally([[u64; 22]; CALLS]);
 
 impl Tally {
     /// Counts a call by its index, and its refusal or none.

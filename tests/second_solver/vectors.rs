@@ -422,6 +422,171 @@ fn check_judgements() -> usize {
     judgements.len()
 }
 
+/// Demands for which floors are asked, how many answers there is room for, and the floors that are stated.
+pub struct Flooring {
+    pub case: Case,
+    pub demands: Vec<u32>,
+    pub room: usize,
+    expected: Result<Vec<i64>, Refused>,
+}
+
+/// Floors of units in edition 1, or in edition 2 where one of them has a b1; with just room enough.
+fn flooring(demand: i128, units: &[Unit], demands: &[u32], expected: &[i64]) -> Flooring {
+    let edition = if units.iter().any(|unit| unit.b1 != 0) { 2 } else { 1 };
+    let case = Case { edition, demand, units: units.to_vec() };
+    Flooring { case, demands: demands.to_vec(), room: demands.len(), expected: Ok(expected.to_vec()) }
+}
+
+/// The same refused, with this room.
+fn unfloored(demand: i128, units: &[Unit], demands: &[u32], room: usize, number: u32) -> Flooring {
+    Flooring { room, expected: Err(Refused(number)), ..flooring(demand, units, demands, &[]) }
+}
+
+fn with_room(room: usize, flooring: Flooring) -> Flooring {
+    Flooring { room, ..flooring }
+}
+
+/// The floors of the examples of section 20, and others that tell wrong rules apart.
+pub fn floorings() -> Vec<Flooring> {
+    let lossy_u = Unit { b: 1, ..u() };
+    let no_edition = |flooring: Flooring| Flooring { case: Case { edition: 3, ..flooring.case }, ..flooring };
+    let wrong_edge = Unit { zones: vec![(2, 7)], ..u() };
+    let stuck = Unit { previous: 5, ..u_must_run() };
+    let starting = [with_c0(5_000), with_c0(60_000)];
+    let unlike = unlike();
+    let unlike_with_b1 = [Unit { b1: 5_000_000, ..unlike[0].clone() }, Unit { b1: -3_000_000, ..unlike[1].clone() }];
+    let free = Unit { c1: 0, c2: 0, ..u() };
+    let greatest = Unit { c0: 1_000_000_000, c1: 10_000_000, least: 1, greatest: 10_000, zones: vec![], ..u_must_run() };
+    let rising: Vec<u32> = (0..97).collect();
+    let up_to_9 = [0, 7_000, 23_000, 39_000, 56_000, 77_000, 98_000, 119_000, 143_000, 168_000];
+    let from_10: Vec<i64> = (0..86).map(|steps| 200_000 + 65_536_000 * steps).collect();
+    let of_rising = [&up_to_9[..], &from_10].concat();
+    vec![
+        // U: its own demand and others; 0 is best for demand 0 and 65,536 for 320,000, neither of them evaluated last
+        flooring(5, &[u()], &[0, 5, 7, 10, 320_000], &[0, 77_000, 119_000, 200_000, 20_970_864_840_000]),
+        // each demand up to 12: below the case's own and above, also where nothing covers; 2 has less than its own dispatch proves
+        flooring(
+            5,
+            &[u()],
+            &[0, 1, 2, 3, 4, 5, 6, 7, 8, 9, 10, 11, 12],
+            &[0, 7_000, 23_000, 39_000, 56_000, 77_000, 98_000, 119_000, 143_000, 168_000, 200_000, 65_736_000, 131_272_000],
+        ),
+        // out of order and repeated
+        flooring(5, &[u()], &[10, 0, 7, 7, 5, 0, 10], &[200_000, 0, 119_000, 119_000, 77_000, 0, 200_000]),
+        flooring(5, &[u()], &[5], &[77_000]),
+        // more room than demands, and no demand
+        with_room(3, flooring(5, &[u()], &[5], &[77_000])),
+        flooring(5, &[u()], &[], &[]),
+        with_room(2, flooring(5, &[u()], &[], &[])),
+        // as many as there may be, and one more
+        flooring(5, &[u()], &rising[..96], &of_rising),
+        unfloored(5, &[u()], &rising, 97, 20),
+        unfloored(5, &[u()], &rising, 0, 20),
+        unfloored(5, &[u()], &[5; 256], 256, 20),
+        // a demand too great: the last, the first, where there is no place for it
+        flooring(5, &[u()], &[320_000], &[20_970_864_840_000]),
+        unfloored(5, &[u()], &[320_001], 1, 20),
+        unfloored(5, &[u()], &[5, 7, 320_001], 3, 20),
+        unfloored(5, &[u()], &[320_001, 5, 7], 3, 20),
+        unfloored(5, &[u()], &[5, 320_001], 1, 20),
+        unfloored(5, &[u()], &[u32::MAX], 1, 20),
+        unfloored(5, &[u()], &[327_685], 1, 20),
+        unfloored(5, &[u()], &[&rising[..95], &[320_001]].concat(), 96, 20),
+        // too little room
+        unfloored(5, &[u()], &[5, 7], 1, 21),
+        unfloored(5, &[u()], &[5], 0, 21),
+        unfloored(5, &[u()], &rising[..96], 95, 21),
+        // 20 and 21 before the case, and the case checked also where no demand is given
+        unfloored(11, &[u()], &[320_001], 1, 20),
+        unfloored(5, &[wrong_edge.clone()], &[320_001], 1, 20),
+        no_edition(unfloored(5, &[u()], &[320_001], 0, 20)),
+        unfloored(11, &[u()], &[5, 7], 1, 21),
+        unfloored(5, &[wrong_edge.clone()], &[5], 0, 21),
+        no_edition(unfloored(5, &[u()], &[5], 0, 21)),
+        no_edition(unfloored(5, &[u()], &[], 0, 3)),
+        unfloored(11, &[u()], &[], 0, 11),
+        unfloored(11, &[u()], &[5], 1, 11),
+        unfloored(0, &[stuck], &[0], 1, 11),
+        unfloored(320_001, &[u()], &[5], 1, 5),
+        unfloored(5, &[wrong_edge], &[], 0, 9),
+        unfloored(5, &[Unit { mark: 2, ..u() }], &[5], 1, 10),
+        // one evaluation, of 0
+        flooring(0, &[u()], &[0, 5, 320_000], &[0, 0, 0]),
+        flooring(0, &[u_must_run()], &[0, 5, 10, 320_000], &[24_000, 24_000, 24_000, 24_000]),
+        flooring(15, &[free.clone(), free], &[0, 15, 21], &[0, 0, 0]),
+        // two, of 0 and 65,536: that covers just the demand, or does not cover it
+        flooring(10, &[u()], &[0, 5, 9, 10, 11, 320_000], &[0, 0, 0, 200_000, 65_736_000, 20_970_864_840_000]),
+        flooring(
+            5_000,
+            &[lossy(5_000)],
+            &[0, 2_000, 2_500, 3_000, 4_999, 5_000, 5_001],
+            &[0, 0, 10_436_800_000, 43_204_800_000, 174_211_264_000, 174_276_800_000, 174_342_336_000],
+        ),
+        // the greatest floor is not the last one
+        flooring(1, &[u()], &[0, 1, 2, 3, 5, 10], &[0, 12_000, 24_000, 39_000, 71_000, 200_000]),
+        // an equal net that ends step 4 after 16
+        flooring(2, &[u()], &[0, 1, 2, 3, 4, 7], &[0, 12_000, 24_000, 39_000, 55_000, 104_000]),
+        // floors that are rounded up
+        flooring(5, &[lossy_u.clone()], &[0, 4, 5, 7, 9, 10], &[0, 56_001, 77_001, 119_001, 168_001, 200_066]),
+        flooring(9, &[lossy_u], &[1, 8, 9, 10], &[7_001, 143_001, 171_001, 200_066]),
+        // two units, lowered or not; 32
+        flooring(5, &[u(), u()], &[0, 4, 5, 6, 14, 20, 21], &[0, 48_000, 63_000, 78_000, 208_000, 400_000, 65_936_000]),
+        flooring(5, &vec![with_c0(6_000); 2], &[4, 5, 6], &[60_000, 75_000, 90_000]),
+        flooring(70, &vec![u(); 32], &[0, 56, 70, 84, 320], &[0, 672_000, 858_000, 1_068_000, 6_400_000]),
+        // a c0 of units that stand
+        flooring(9, &starting, &[7, 8, 9, 10, 11, 20], &[124_000, 149_000, 174_000, 199_000, 224_000, 465_000]),
+        // unlike units
+        flooring(15, &unlike, &[0, 12, 15, 18, 27, 28], &[169_000, 251_478, 324_523, 405_013, 703_284, 66_239_284]),
+        flooring(26, &unlike, &[12, 15, 26, 27], &[205_703, 301_703, 663_748, 703_284]),
+        // the greatest costs that there are
+        flooring(
+            320_000,
+            &vec![greatest.clone(); 32],
+            &[0, 319_999, 320_000],
+            &[32_320_032_000, 6_431_934_464_000, 6_432_000_000_000],
+        ),
+        flooring(1, &vec![greatest; 32], &[0, 320_000], &[32_320_032_000, 32_320_032_000]),
+        // edition 2
+        flooring(
+            5,
+            &[with_b1(-10_000_000)],
+            &[0, 4, 5, 6, 7, 11, 12],
+            &[0, 49_600, 67_400, 86_400, 105_400, 200_000, 65_736_000],
+        ),
+        flooring(
+            5,
+            &[with_b1(10_000_000)],
+            &[0, 4, 5, 6, 7, 9, 10],
+            &[0, 65_200, 88_200, 111_800, 135_800, 200_000, 65_736_000],
+        ),
+        flooring(15, &unlike_with_b1, &[12, 15, 18], &[254_883, 328_228, 409_653]),
+        unfloored(10, &[with_b1(1)], &[9], 1, 11),
+        unfloored(5, &[with_b1(10_000_001)], &[5], 1, 18),
+        unfloored(5, &[with_b1(10_000_001)], &[], 0, 18),
+        unfloored(5, &[with_b1(10_000_001)], &[5], 0, 21),
+        unfloored(5, &[with_b1(10_000_001)], &[320_001], 0, 20),
+    ]
+}
+
+fn check_floorings() -> usize {
+    let floorings = floorings();
+    for vector in &floorings {
+        let mut list = vec![i64::MIN; vector.room];
+        let answer = solver::floors(&solver::encode(&vector.case), &vector.demands, &mut list);
+        let mut stated = vector.expected.clone().unwrap_or_default();
+        assert_eq!(
+            answer,
+            vector.expected.as_ref().map(Vec::len).map_err(|refused| *refused),
+            "{:?} of {:?}",
+            vector.demands,
+            vector.case
+        );
+        stated.resize(vector.room, i64::MIN);
+        assert_eq!(list, stated, "floors for {:?} of {:?}", vector.demands, vector.case);
+    }
+    floorings.len()
+}
+
 /// Asserts every number that is stated; tells how many vectors there are.
 pub fn check() -> usize {
     let u5 = solver::encode(&u5());
@@ -435,7 +600,7 @@ pub fn check() -> usize {
     for vector in &vectors {
         check_vector(vector);
     }
-    vectors.len() + PRICINGS.len() + VIEWS.len() + check_edition_2() + check_judgements()
+    vectors.len() + PRICINGS.len() + VIEWS.len() + check_edition_2() + check_judgements() + check_floorings()
 }
 
 /// Asserts what is stated of edition 2 beside its cases; tells how many numbers that is.

@@ -3,7 +3,7 @@
 use second_solver::branches::Reached;
 use second_solver::calls::{bytes_of, Call};
 use second_solver::generate::{accepted_kinds, kinds};
-use second_solver::promise::{self, Judgements};
+use second_solver::promise::{self, Floors, Judgements};
 use second_solver::random::Random;
 use second_solver::solver::{self, Judged, Refused};
 use second_solver::tally::{Tally, POSSIBLE};
@@ -14,6 +14,8 @@ const BUFFER_BYTES: usize = 1_600;
 const BUFFER_NUMBERS: usize = 640;
 const FILL_BYTE: u8 = 0xA5;
 const FILL_NUMBER: u32 = 0xA5A5_A5A5;
+const FILL_FLOOR: i64 = 0xA5A5_A5A5_A5A5_A5A5_u64 as i64;
+const KINDS: usize = 96;
 const MOST_ALLOCATIONS: usize = 200_000;
 const MOST_OFFERS: usize = 400;
 
@@ -26,6 +28,7 @@ struct Files {
     reached: Reached,
     promises: usize,
     judgements: Judgements,
+    floors: Floors,
 }
 
 fn main() {
@@ -42,8 +45,10 @@ fn main() {
     std::fs::write(input_path, input(&files.records)).expect(input_path);
     std::fs::write(output_path, output(&files)).expect(output_path);
     println!("{} vectors as stated", vectors);
-    let (calls, dispatches, judgements) = (files.tally.total(), files.promises, files.judgements.checked);
-    println!("{} calls, {} dispatches and {} judgements checked by brute force", calls, dispatches, judgements);
+    let (dispatches, judgements, floors) = (files.promises, files.judgements.checked, files.floors.checked);
+    let by_brute_force =
+        format!("{} dispatches, {} judgements and {} floors checked by brute force", dispatches, judgements, floors);
+    println!("{} calls, {}", files.tally.total(), by_brute_force);
     for line in files.reached.lines() {
         println!("{}", line);
     }
@@ -91,7 +96,7 @@ fn output(files: &Files) -> String {
 }
 
 fn record(what: u16, kind: usize, number: u32, room: usize, content: &[u8]) -> Vec<u8> {
-    assert!(kind < 64 && content.len() <= 4_096);
+    assert!(kind < KINDS && content.len() <= 4_096);
     let mut bytes = what.to_be_bytes().to_vec();
     bytes.extend((kind as u16).to_be_bytes());
     bytes.extend(number.to_be_bytes());
@@ -130,6 +135,11 @@ impl Files {
                 let (line, refused) = judge(file, outputs);
                 (record(6, kind, file.len() as u32, 0, &[&file[..], &bytes_of(outputs)].concat()), line, refused)
             }
+            Call::Floors { file, demands, room } => {
+                self.check_floors(file, demands, *room);
+                let (line, refused) = floors(file, demands, *room);
+                (record(7, kind, file.len() as u32, *room, &[&file[..], &bytes_of(demands)].concat()), line, refused)
+            }
         };
         self.records.push(record);
         self.lines.push(line);
@@ -151,6 +161,16 @@ impl Files {
     fn check_judgement(&mut self, file: &[u8], outputs: &[u32]) {
         if is_small(file) {
             if let Err(message) = self.judgements.check(file, outputs, solver::judge(file, outputs)) {
+                panic!("{}", message);
+            }
+        }
+    }
+
+    fn check_floors(&mut self, file: &[u8], demands: &[u32], room: usize) {
+        let mut list = vec![0; room];
+        let answer = solver::floors(file, demands, &mut list);
+        if is_small(file) && !matches!(answer, Err(Refused(20 | 21))) {
+            if let Err(message) = self.floors.check(file, demands, answer.map(|count| &list[..count])) {
                 panic!("{}", message);
             }
         }
@@ -220,6 +240,18 @@ fn judge(file: &[u8], outputs: &[u32]) -> (String, Option<Refused>) {
         Ok(Judged::Accepted { cost, surplus, distance }) => (format!("judge accepted {} {} {}", cost, surplus, distance), None),
         Ok(Judged::NotAccepted) => ("judge not accepted".to_string(), None),
         Err(refused) => (format!("judge refused {}", refused.0), Some(refused)),
+    }
+}
+
+fn floors(file: &[u8], demands: &[u32], room: usize) -> (String, Option<Refused>) {
+    let mut buffer = [FILL_FLOOR; BUFFER_NUMBERS];
+    match solver::floors(file, demands, &mut buffer[..room]) {
+        Ok(count) => {
+            let (written, rest) = buffer.split_at(count);
+            let numbers: String = written.iter().map(|number| format!("{} ", number)).collect();
+            (format!("floors {} {}{}", count, numbers, kept(rest, FILL_FLOOR)), None)
+        }
+        Err(refused) => (format!("floors refused {} {}", refused.0, kept(&buffer, FILL_FLOOR)), Some(refused)),
     }
 }
 

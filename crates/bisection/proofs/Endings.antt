@@ -3,6 +3,7 @@ use Prim.Native.Nat.{ℕ, _≤_, _<_}
 use native.Mathlib.Omega.{arith}
 use mathlib.Core.Path.{_≡_, subst}
 use mathlib.Core.List.{List}
+use lib.IntN.{ℤ}
 use lib.ListN.{length}
 use borrow.Author.Tests.{lt-ltb, le-ltb}
 use Rattle.rules.specs.Lists.{over}
@@ -28,11 +29,11 @@ use Rattle.bisection.specs.Search.{Holding, Searches}
 use Rattle.bisection.specs.Solved.{Stateable, States, Solving, Solves}
 
 -- what the search found can be stated
-pub stateable : {coefficients ends ranges : List ℕ} {n t : ℕ} {first : code-allocation.Allocation} (s : Solving coefficients ends ranges n t first) {f : code-found.Found} → Searches (Holding coefficients ends ranges n t) n first f → Stateable t f
-stateable {t = t} s {f} h =
+pub stateable : {coefficients ends ranges : List ℕ} {n t : ℕ} {first : code-allocation.Allocation} (s : Solving coefficients ends ranges n t first) {f : code-found.Found} {trace : List ℤ} → Searches (Holding coefficients ends ranges n t) n first f trace → Stateable t f
+stateable {t = t} s {f} {trace} h =
     let q = s .problem in
     let p = s .holds .problem in
-    let found = h .held q (s .holds) (s .greatest) in
+    let found = h .held q (s .holds) (s .greatest) .found in
     let proper = held-proper p in
     record {
       covers = omega (arith, best-covers q proper (s .solves), found .best .net, s .holds .demanded);
@@ -45,9 +46,9 @@ stateable {t = t} s {f} h =
     }
 
 -- and what is stated is the rules' solution
-pub solved : {coefficients ends ranges : List ℕ} {n t : ℕ} {first : code-allocation.Allocation} {f : code-found.Found} {r : code-reply.Reply} → States t f r → Searches (Holding coefficients ends ranges n t) n first f → Solves coefficients ends ranges n t first r
+pub solved : {coefficients ends ranges : List ℕ} {n t : ℕ} {first : code-allocation.Allocation} {f : code-found.Found} {r : code-reply.Reply} {trace : List ℤ} → States t f r → Searches (Holding coefficients ends ranges n t) n first f trace → Solves coefficients ends ranges n t first r
 unfolding solve
-solved {r = r} s h = record { held = λ q i g. subst (λ (k : ℕ). replyHeld k r ≡ solve q) (i .problem .count) (s .held q (i .demanded) (found q) (h .held q i g)) }
+solved {r = r} s h = record { held = λ q i g. subst (λ (k : ℕ). replyHeld k r ≡ solve q) (i .problem .count) (s .held q (i .demanded) (found q) (h .held q i g .found)) }
 
 -- what step 1 found can be solved
 module _ {file coefficients ends ranges outputs : List ℕ} {n t c w : ℕ} (f : First file coefficients ends ranges outputs n t c w) where

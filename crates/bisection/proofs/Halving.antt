@@ -2,10 +2,11 @@
 use Prim.Native.Nat.{ℕ, zero, suc, _+_, _*_, _/_, _^_, _≤_, _<_}
 use native.Mathlib.Nat.{pow-suc}
 use native.Mathlib.Omega.{arith}
-use mathlib.Core.Path.{_≡_, refl, sym, ap, _∙_, subst}
+use mathlib.Core.Path.{_≡_, refl, sym, ap, _∙_, subst, subst⁻¹}
 use mathlib.Core.Bool.{cond}
 use mathlib.Core.List.{List, [], _∷_}
 use lib.IntN.{ℤ}
+use lib.ListN.{length}
 use lib.Signed.{leZ}
 use Rattle.rules.specs.Numbers.{dividedUp, greatestAt}
 use Rattle.rules.specs.Problem.{Problem, unitsOf, totalNet, target}
@@ -15,7 +16,8 @@ use Rattle.rules.proofs.Economics.Steps.{step4-equal, step4-covers, step4-short
 use Rattle.pricing.specs.Totals.{HoldsOutputs, Sized}
 use Rattle.bisection.specs.declared.steps.Allocation as code-allocation
 use Rattle.bisection.specs.declared.steps.Found as code
-use Rattle.bisection.specs.Search.{sumsOf, Selected, allocated, Selects, HoldsFound, Started, halved, Halves}
+use Rattle.bisection.specs.Search.{sumsOf, Selected, allocated, Selects, HoldsFound, recorded, Traces, HoldsTraced, Started, halved, Halves}
+use Rattle.bisection.proofs.Tracing.{recorded-length, traces-more}
 
 -- the greatest floor with one multiplier more
 pub floor-more : (q : Problem) (m n : ℕ) (ms : List ℕ) (z : ℤ) → z ≡ greatestFloor q (n ∷ ms) → (d : ℤ) → d ≡ dualValue m q → cond (leZ (dividedUp d 100000) z) z (dividedUp d 100000) ≡ greatestFloor q (m ∷ n ∷ ms)
@@ -31,12 +33,12 @@ abbrev step : Problem → ℕ → ℕ → List ℕ → List ℕ → Found (List 
 step q k low b ms = step4 (λ m. selected m q) (totalNet (unitsOf q)) (target q) k low b ms
 
 -- for a problem q whose step 4 starts from b: what is found so far, and that the rest of step 4 from here is the whole of it
-pub record Reached (q : Problem) (b : List ℕ) (k low last : ℕ) (before : List ℕ) (f : code.Found) : Type 0 where
+pub record Reached (q : Problem) (b : List ℕ) (k low last : ℕ) (before : List ℕ) (f : code.Found) (trace : List ℤ) : Type 0 where
   pub best : List ℕ
-  pub holds : HoldsFound q (record { best = best; evaluated = last ∷ before }) f
+  pub holds : HoldsTraced q (record { best = best; evaluated = last ∷ before }) f trace
   pub rest : step q k low best (last ∷ before) ≡ halved q b
 
-pub record Halving (H : Problem → Type 0) (n : ℕ) (start f : code.Found) (low width : ℕ) : Type 0 where
+pub record Halving (H : Problem → Type 0) (n : ℕ) (start : code.Found) (trace₀ : List ℤ) (f : code.Found) (trace : List ℤ) (low width : ℕ) : Type 0 where
   pub k : ℕ
   pub last : ℕ
   pub before : List ℕ
@@ -44,7 +46,7 @@ pub record Halving (H : Problem → Type 0) (n : ℕ) (start f : code.Found) (lo
   pub within : low + width ≤ 65536
   pub left : f .evaluations + k ≡ 18
   pub sized : Sized n (sumsOf (f .best))
-  pub reached : (q : Problem) → H q → (b : List ℕ) → HoldsFound q (record { best = b; evaluated = 65536 ∷ 0 ∷ [] }) start → Reached q b k low last before f
+  pub reached : (q : Problem) → H q → (b : List ℕ) → HoldsTraced q (record { best = b; evaluated = 65536 ∷ 0 ∷ [] }) start trace₀ → Reached q b k low last before f trace
 
 one-power : (k : ℕ) → 2 ^ k ≡ 1 → k ≡ 0
 one-power zero e = refl
@@ -59,8 +61,8 @@ noted best f s =
       evaluations = f .evaluations + 1;
     }
 
-module _ {H : Problem → Type 0} {n : ℕ} {start : code.Found} where
-  pub halving-starts : Started n start → Halving H n start start 0 65536
+module _ {H : Problem → Type 0} {n : ℕ} {start : code.Found} {trace₀ : List ℤ} where
+  pub halving-starts : Started n start → Halving H n start trace₀ start trace₀ 0 65536
   halving-starts s =
       record {
         k = 16;
@@ -73,9 +75,9 @@ module _ {H : Problem → Type 0} {n : ℕ} {start : code.Found} where
         reached = λ q h b g. record { best = b; holds = g; rest = refl };
       }
 
-  module _ {f : code.Found} {low width : ℕ} (h : Halving H n start f low width) where
+  module _ {f : code.Found} {trace : List ℤ} {low width : ℕ} (h : Halving H n start trace₀ f trace low width) where
     -- adjacent ends
-    pub halving-ends : width ≡ 1 → Halves H n start f
+    pub halving-ends : width ≡ 1 → Halves H n start trace₀ f trace
     halving-ends e =
         let zeroth : h .k ≡ 0 = one-power (h .k) (sym (h .power) ∙ e) in
         record {
@@ -84,12 +86,12 @@ module _ {H : Problem → Type 0} {n : ℕ} {start : code.Found} where
           held = λ q i b g.
               let r = h .reached q i b g in
               let whole : step q 0 low (r .best) (h .last ∷ h .before) ≡ halved q b = rw zeroth at (r .rest) in
-              subst (λ (x : Found (List ℕ)). HoldsFound q x f) (sym (step4-ends (λ m. selected m q) (totalNet (unitsOf q)) (target q) low (r .best) (h .last ∷ h .before)) ∙ whole) (r .holds);
+              subst (λ (x : Found (List ℕ)). HoldsTraced q x f trace) (sym (step4-ends (λ m. selected m q) (totalNet (unitsOf q)) (target q) low (r .best) (h .last ∷ h .before)) ∙ whole) (r .holds);
         }
 
     -- ---- one evaluation more
 
-    module _ (more : width ≡ 1 → ⊥) {outputs : List ℕ} {s : Selected} (v : Selects H n (low + width / 2) outputs s) {t : ℕ} (demanded : (q : Problem) → H q → t ≡ target q) where
+    module _ (more : width ≡ 1 → ⊥) {outputs : List ℕ} {s : Selected} (v : Selects H n (low + width / 2) outputs s) {t : ℕ} (demanded : (q : Problem) → H q → t ≡ target q) {trace′ : List ℤ} (written : trace′ ≡ recorded trace (f .evaluations) (low + width / 2) (s .dual)) where
       abbrev j : ℕ
       j = half width (h .k) (h .power) more .0
 
@@ -107,24 +109,32 @@ module _ {H : Problem → Type 0} {n : ℕ} {start : code.Found} where
         middle-dual : s .dual ≡ dualValue (low + 2 ^ j) q
         middle-dual = rw halfway at (v .dual q i)
 
-        module _ (b : List ℕ) (g : HoldsFound q (record { best = b; evaluated = 65536 ∷ 0 ∷ [] }) start) where
-          abbrev r : Reached q b (h .k) low (h .last) (h .before) f
+        module _ (b : List ℕ) (g : HoldsTraced q (record { best = b; evaluated = 65536 ∷ 0 ∷ [] }) start trace₀) where
+          abbrev r : Reached q b (h .k) low (h .last) (h .before) f trace
           r = h .reached q i b g
 
           whole : step q (suc j) low (r .best) (h .last ∷ h .before) ≡ halved q b
           whole = ap (λ (m : ℕ). step q m low (r .best) (h .last ∷ h .before)) (sym next) ∙ r .rest
 
           -- with the middle's floor and count, whichever is the best
-          noted-holds : (x : List ℕ) (a : code-allocation.Allocation) → HoldsOutputs q x (a .outputs) (sumsOf a) → HoldsFound q (record { best = x; evaluated = (low + 2 ^ j) ∷ h .last ∷ h .before }) (noted a f s)
+          noted-holds : (x : List ℕ) (a : code-allocation.Allocation) → HoldsOutputs q x (a .outputs) (sumsOf a) → HoldsTraced q (record { best = x; evaluated = (low + 2 ^ j) ∷ h .last ∷ h .before }) (noted a f s) trace′
           noted-holds x a o =
+              let was = r .holds .found in
               record {
-                best = o;
-                floor = floor-more q (low + 2 ^ j) (h .last) (h .before) (f .floor) (r .holds .floor) (s .dual) middle-dual;
-                evaluations = omega (arith, r .holds .evaluations);
+                found =
+                    record {
+                      best = o;
+                      floor = floor-more q (low + 2 ^ j) (h .last) (h .before) (f .floor) (was .floor) (s .dual) middle-dual;
+                      evaluations = omega (arith, was .evaluations);
+                    };
+                traced = λ room.
+                    let long : 36 ≤ length trace = omega (arith, ap length written, recorded-length trace (f .evaluations) (low + width / 2) (s .dual)) in
+                    subst⁻¹ (Traces q ((low + 2 ^ j) ∷ h .last ∷ h .before)) written
+                    (traces-more q (h .last ∷ h .before) trace (low + 2 ^ j) (low + width / 2) (f .evaluations) (s .dual) (was .evaluations) (ap (λ (x : ℕ). low + x) halfway) (omega (arith, was .evaluations, h .left, next)) middle-dual (r .holds .traced long));
               }
 
       -- (rule 11.9) equal net
-      pub equal-net : s .net ≡ t → Halves H n start (noted (allocated outputs s) f s)
+      pub equal-net : s .net ≡ t → Halves H n start trace₀ (noted (allocated outputs s) f s) trace′
       equal-net e =
           record {
             sized = v .sized;
@@ -132,11 +142,11 @@ module _ {H : Problem → Type 0} {n : ℕ} {start : code.Found} where
             held = λ q i b g.
                 let o = middle-taken q i in
                 let same = step4-equal (λ m. selected m q) (totalNet (unitsOf q)) (target q) j low (r q i b g .best) (h .last ∷ h .before) (sym (o .net) ∙ e ∙ demanded q i) in
-                subst (λ (x : Found (List ℕ)). HoldsFound q x (noted (allocated outputs s) f s)) (sym same ∙ whole q i b g) (noted-holds q i b g (selected (low + 2 ^ j) q) (allocated outputs s) o);
+                subst (λ (x : Found (List ℕ)). HoldsTraced q x (noted (allocated outputs s) f s) trace′) (sym same ∙ whole q i b g) (noted-holds q i b g (selected (low + 2 ^ j) q) (allocated outputs s) o);
           }
 
       -- the loop goes on from low′ with half the width, the middle noted
-      turned : (a : code-allocation.Allocation) (low′ : ℕ) → low′ ≤ low + width / 2 → Sized n (sumsOf a) → ((q : Problem) (i : H q) (b : List ℕ) → HoldsFound q (record { best = b; evaluated = 65536 ∷ 0 ∷ [] }) start → Reached q b j low′ (low + 2 ^ j) (h .last ∷ h .before) (noted a f s)) → Halving H n start (noted a f s) low′ (width / 2)
+      turned : (a : code-allocation.Allocation) (low′ : ℕ) → low′ ≤ low + width / 2 → Sized n (sumsOf a) → ((q : Problem) (i : H q) (b : List ℕ) → HoldsTraced q (record { best = b; evaluated = 65536 ∷ 0 ∷ [] }) start trace₀ → Reached q b j low′ (low + 2 ^ j) (h .last ∷ h .before) (noted a f s) trace′) → Halving H n start trace₀ (noted a f s) trace′ low′ (width / 2)
       turned a low′ within sized reached =
           record {
             k = j;
@@ -150,7 +160,7 @@ module _ {H : Problem → Type 0} {n : ℕ} {start : code.Found} where
           }
 
       -- (rule 11.10) the middle covers
-      pub covering : t < s .net → Halving H n start (noted (allocated outputs s) f s) low (width / 2)
+      pub covering : t < s .net → Halving H n start trace₀ (noted (allocated outputs s) f s) trace′ low (width / 2)
       covering e =
           turned (allocated outputs s) low (omega arith) (v .sized)
           (λ q i b g.
@@ -159,11 +169,11 @@ module _ {H : Problem → Type 0} {n : ℕ} {start : code.Found} where
           record { best = selected (low + 2 ^ j) q; holds = noted-holds q i b g (selected (low + 2 ^ j) q) (allocated outputs s) o; rest = sym same ∙ whole q i b g })
 
       -- (rule 11.11) it does not
-      pub uncovered : s .net < t → Halving H n start (noted (f .best) f s) (low + width / 2) (width / 2)
+      pub uncovered : s .net < t → Halving H n start trace₀ (noted (f .best) f s) trace′ (low + width / 2) (width / 2)
       uncovered e =
           turned (f .best) (low + width / 2) (omega arith) (h .sized)
           (λ q i b g.
           let o = middle-taken q i in
           let same = step4-short (λ m. selected m q) (totalNet (unitsOf q)) (target q) j low (r q i b g .best) (h .last ∷ h .before) (omega (arith, o .net, demanded q i)) in
           let moved : step q j (low + width / 2) (r q i b g .best) ((low + 2 ^ j) ∷ h .last ∷ h .before) ≡ halved q b = rw halfway (sym same ∙ whole q i b g) in
-          record { best = r q i b g .best; holds = noted-holds q i b g (r q i b g .best) (f .best) (r q i b g .holds .best); rest = moved })
+          record { best = r q i b g .best; holds = noted-holds q i b g (r q i b g .best) (f .best) (r q i b g .holds .found .best); rest = moved })

@@ -1,6 +1,7 @@
 pub mod ReplyWritten
 pub mod Lowered
 pub mod Selecting
+pub mod Tracing
 pub mod Halving
 pub mod Searching
 pub mod Stating

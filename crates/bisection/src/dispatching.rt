@@ -58,7 +58,11 @@ pub fn solve(
     requires { ⌜ Solving (now coefficients) (now ends) (now ranges) n target first ⌝ }
     ensures { λ r. ⌜ Solves (now (coefficients .entry)) (now (ends .entry)) (now (ranges .entry)) n target first r ⌝ }
 {
-    stated(target, search(coefficients, ends, ranges, n, target, first))
+    let mut trace = [0i64; 0];
+    stated(
+        target,
+        search(coefficients, ends, ranges, n, target, first, &mut trace),
+    )
 }
 
 // Dispatches the case file: writes the reply and gives its length, or refuses and leaves the reply's bytes as they were.

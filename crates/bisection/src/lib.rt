@@ -8,4 +8,5 @@ pub use dispatching::dispatch;
 pub use dispatching::distance;
 pub use steps::Allocation;
 pub use steps::Found;
+pub use steps::greater;
 pub use steps::search;

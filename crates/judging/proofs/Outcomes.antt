@@ -29,13 +29,13 @@ module _ {coefficients ends ranges : List ℕ} {n t : ℕ} {first : code-allocat
     pub uncovered : w < t → JudgedHeld coefficients ends ranges n t first ps Judged.NotAccepted
     uncovered short q h g a k = omega (arith, s .held q (h .problem) .net)
 
-    module _ (covers : t ≤ w) {f : code-found.Found} (found : Searches (Holding coefficients ends ranges n t) n first f) where
+    module _ (covers : t ≤ w) {f : code-found.Found} {trace : List ℤ} (found : Searches (Holding coefficients ends ranges n t) n first f trace) where
       pub measurable : Solving coefficients ends ranges n t first → Measurable c (f .floor)
       measurable v =
           let q = v .problem in
           let p = v .holds .problem in
           let sums = s .held q p in
-          let floor = found .held q (v .holds) (v .greatest) .floor in
+          let floor = found .held q (v .holds) (v .greatest) .found .floor in
           record {
             range = omega (arith, s .sized .cost, p .few);
             above = rw (floor, sums .cost) (floor-at-most q (held-proper p) (v .solves) ps (sums .given) (omega (arith, sums .net, v .holds .demanded)));
@@ -50,7 +50,7 @@ module _ {coefficients ends ranges : List ℕ} {n t : ℕ} {first : code-allocat
             covers = omega (arith, sums .net);
             cost = sums .cost;
             surplus = omega (arith, sums .net);
-            distance = e ∙ ap₂ (λ (k : ℕ) (z : ℤ). natural (pos k -ℤ z)) (sums .cost) (found .held q h g .floor);
+            distance = e ∙ ap₂ (λ (k : ℕ) (z : ℤ). natural (pos k -ℤ z)) (sums .cost) (found .held q h g .found .floor);
           }
 
 -- ---- of a file: its problem is one that the arrays hold, with as many offers as the case has units

@@ -103,7 +103,8 @@ fn judge_outputs(
             if net < target {
                 return Judged::NotAccepted;
             }
-            let found = bisection::search(coefficients, ends, ranges, n, target, first);
+            let mut trace = [0i64; 0];
+            let found = bisection::search(coefficients, ends, ranges, n, target, first, &mut trace);
             Judged::Accepted {
                 cost,
                 surplus: net - target,

@@ -1,5 +1,5 @@
 // The panel's calls, as C sees them: a slice is a pointer and then a length, an answer is a number. Each does what the call on
-// slices does and tells its answer in numbers (rules 14.1 to 14.4, 18.8, 19.7). `include/shahfureel.h` declares them.
+// slices does and tells its answer in numbers (rules 14.1 to 14.4, 18.8, 19.7, 20.8). `include/shahfureel.h` declares them.
 ghost use mathlib.Core.Path.{_≡_};
 ghost use mathlib.Core.Bool.{cond};
 ghost use mathlib.Core.List.{[], _∷_};
@@ -8,6 +8,7 @@ ghost use Rattle.rules.specs.Calls.{panelDispatched, panelPriced, panelPacked, 
 ghost use Rattle.rules.specs.Lists.{over};
 ghost use Rattle.modbus.specs.View.{panelViewed};
 ghost use Rattle.judging.specs.Judging.{panelJudged};
+ghost use Rattle.sensitivity.specs.Floors.{panelFloored};
 ghost use Rattle.panel.specs.Required.{Answerable};
 use judging::Judged;
 use modbus::Viewed;
@@ -16,6 +17,7 @@ use rules::Packed;
 use rules::Priced;
 use rules::Refusal;
 use rules::Unpacked;
+use sensitivity::Floored;
 
 #[no_mangle]
 pub extern "C" fn shahfureel_dispatch(file: &[u8], reply: &mut [u8]) -> u32
@@ -137,6 +139,28 @@ pub extern "C" fn shahfureel_judge(file: &[u8], outputs: &[u32], answers: &mut [
             distance,
         } => {
             write_judgement(answers, true, cost, surplus, distance);
+            0
+        }
+    }
+}
+
+#[no_mangle]
+pub extern "C" fn shahfureel_floors(
+    file: &[u8],
+    demands: &[u32],
+    floors: &mut [i64],
+    answers: &mut [i64],
+) -> u32
+    ensures { λ n. ⌜ panelFloored (now (file .entry)) (now (demands .entry)) (now (floors .entry)) (now (answers .entry)) ≡ record { number = n; floors = now (floors .exit); answers = now (answers .exit) } ⌝ }
+{
+    if answers.len() < 1 {
+        return rules::number(Refusal::BufferTooShort);
+    }
+    let floored = sensitivity::floors(file, demands, floors);
+    match floored {
+        Floored::Refused(r) => rules::number(r),
+        Floored::Written(count) => {
+            answers[0] = count as i64;
             0
         }
     }

@@ -29,6 +29,8 @@ use Rattle.rules.specs.declared.Refusal.the-variants.{
   AnswerTooShort,
   LossesOutOfRange,
   OutputCountInvalid,
+  DemandsInvalid,
+  FloorsTooShort,
 }
 use Rattle.rules.specs.declared.Dispatched.{Dispatched}
 use Rattle.rules.specs.declared.Packed.{Packed}
@@ -58,6 +60,8 @@ number-below-30 RequestLengthInvalid = omega arith
 number-below-30 AnswerTooShort = omega arith
 number-below-30 LossesOutOfRange = omega arith
 number-below-30 OutputCountInvalid = omega arith
+number-below-30 DemandsInvalid = omega arith
+number-below-30 FloorsTooShort = omega arith
 
 -- ---- lengths
 

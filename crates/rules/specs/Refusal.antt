@@ -1,4 +1,4 @@
--- Rules 4.1 to 4.10 of docs/SPECIFICATION.md: the refusals, their numbers, and the checks of a file and of a unit in their order. (The order of each call as a whole is in `Calls`, of the Modbus view in `modbus/specs/View`.)
+-- Rules 4.1 to 4.10 of docs/SPECIFICATION.md: the refusals, their numbers, and the checks of a file and of a unit in their order. (The order of each call as a whole is in `Calls`, in `modbus/specs/View`, `judging/specs/Judging` and `sensitivity/specs/Floors`.)
 use Prim.Native.Nat.{ℕ, zero, suc, _+_, _*_}
 use mathlib.Core.Bool.{Bool, cond, not, _&&_, _||_}
 use mathlib.Core.List.{List, [], _∷_}
@@ -30,6 +30,8 @@ use Rattle.rules.specs.declared.Refusal.the-variants.{
   AnswerTooShort,
   LossesOutOfRange,
   OutputCountInvalid,
+  DemandsInvalid,
+  FloorsTooShort,
 }
 use Rattle.rules.specs.declared.Verdict.{Verdict}
 use Rattle.rules.specs.declared.Verdict.the-variants.{Accepted, Refused}
@@ -57,6 +59,8 @@ numberOf RequestLengthInvalid = 16
 numberOf AnswerTooShort = 17
 numberOf LossesOutOfRange = 18
 numberOf OutputCountInvalid = 19
+numberOf DemandsInvalid = 20
+numberOf FloorsTooShort = 21
 
 -- what checking finds, as a number: 0 where nothing is refused
 abbrev pub numberOfVerdict : Verdict → ℕ

@@ -42,6 +42,10 @@ pub enum Refusal {
     LossesOutOfRange,
     // Outputs to be judged that are not one to a unit.
     OutputCountInvalid,
+    // More than 96 demands, or one above 320,000 steps.
+    DemandsInvalid,
+    // A list for floors that is shorter than that of the demands.
+    FloorsTooShort,
 }
 
 pub fn number(r: Refusal) -> u32
@@ -67,6 +71,8 @@ pub fn number(r: Refusal) -> u32
         Refusal::AnswerTooShort => 17,
         Refusal::LossesOutOfRange => 18,
         Refusal::OutputCountInvalid => 19,
+        Refusal::DemandsInvalid => 20,
+        Refusal::FloorsTooShort => 21,
     }
 }
 

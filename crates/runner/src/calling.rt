@@ -2,8 +2,11 @@
 // number: the refusal's, or 0.
 ghost use Prim.Native.Nat.{_≤_};
 ghost use mathlib.Core.Path.{_≡_};
+ghost use mathlib.Core.List.{map};
 ghost use lib.Dec.{eqb};
 ghost use lib.ListN.{length, drop};
+ghost use mir.Syntax.{w64};
+ghost use mir.Val.{ofZ};
 ghost use Rattle.rules.specs.Lists.{all};
 use crate::printing::decimals;
 use crate::printing::hexadecimal;
@@ -11,6 +14,7 @@ use crate::printing::least;
 use crate::printing::number;
 use crate::printing::rest;
 use crate::printing::signed;
+use crate::printing::signed_decimals;
 use crate::printing::word;
 use judging::Judged;
 use modbus::Viewed;
@@ -19,6 +23,7 @@ use rules::Packed;
 use rules::Priced;
 use rules::Refusal;
 use rules::Unpacked;
+use sensitivity::Floored;
 
 fn fill_bytes(bytes: &mut [u8]) {
     let mut i = 0;
@@ -32,6 +37,14 @@ fn fill_numbers(numbers: &mut [u32]) {
     let mut i = 0;
     while i < numbers.len() {
         numbers[i] = 2779096485;
+        i += 1;
+    }
+}
+
+fn fill_integers(integers: &mut [i64]) {
+    let mut i = 0;
+    while i < integers.len() {
+        integers[i] = -6510615555426900571;
         i += 1;
     }
 }
@@ -57,6 +70,20 @@ fn numbers_kept(numbers: &[u32], from: usize) -> bool
     let mut i = from;
     while i < numbers.len() {
         if numbers[i] != 2779096485 {
+            return false;
+        }
+        i += 1;
+    }
+    true
+}
+
+// Whether the integers from `from` on have the bits that they had before the call.
+fn integers_kept(integers: &[i64], from: usize) -> bool
+    ensures { λ r. ⌜ r ≡ all (λ n. eqb n 11936128518282651045) (drop from (map (ofZ w64) (now (integers .entry)))) ⌝ }
+{
+    let mut i = from;
+    while i < integers.len() {
+        if integers[i] != -6510615555426900571 {
             return false;
         }
         i += 1;
@@ -230,6 +257,35 @@ fn judge(given: &[u8], at: usize, numbers: &mut [u32]) -> u32 {
     }
 }
 
+// The floors that a call wrote, and the rest of their list.
+fn print_floors(integers: &[i64], count: usize) {
+    number(b"", count as u64);
+    signed_decimals(integers, count);
+    word(b" ");
+    rest(integers_kept(integers, count));
+}
+
+// The first `at` bytes are the file, the others the demands, 4 bytes each. The floors' list is lent as far as there is room.
+fn floors(given: &[u8], at: usize, room: usize, numbers: &mut [u32], integers: &mut [i64]) -> u32 {
+    let end = least(at, given.len());
+    let count = read_rows(&given[end..], numbers);
+    let lent = least(room, integers.len());
+    fill_integers(integers);
+    let answer = sensitivity::floors(&given[..end], &numbers[..count], &mut integers[..lent]);
+    match answer {
+        Floored::Refused(r) => {
+            let n = print_refusal(r);
+            word(b" ");
+            rest(integers_kept(integers, 0));
+            n
+        }
+        Floored::Written(written) => {
+            print_floors(integers, written);
+            0
+        }
+    }
+}
+
 // The call that the record names, on what it gives.
 pub fn run(
     call: u16,
@@ -238,6 +294,7 @@ pub fn run(
     given: &[u8],
     bytes: &mut [u8],
     numbers: &mut [u32],
+    integers: &mut [i64],
 ) -> u32 {
     if call == 1 {
         dispatch(given, room, bytes)
@@ -251,6 +308,8 @@ pub fn run(
         view(given, argument as usize, room, bytes)
     } else if call == 6 {
         judge(given, argument as usize, numbers)
+    } else if call == 7 {
+        floors(given, argument as usize, room, numbers, integers)
     } else {
         word(b"call\n");
         0

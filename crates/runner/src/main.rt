@@ -38,6 +38,8 @@ fn print_call(call: u16) {
         word(b"view ");
     } else if call == 6 {
         word(b"judge ");
+    } else if call == 7 {
+        word(b"floors ");
     } else {
         word(b"unknown ");
     }
@@ -84,6 +86,7 @@ fn run_record(
     given: &mut [u8],
     bytes: &mut [u8],
     numbers: &mut [u32],
+    integers: &mut [i64],
 ) -> bool {
     let mut head = [0u8; 12];
     let got = io::read_full(STDIN_FILENO, &mut head);
@@ -108,7 +111,15 @@ fn run_record(
     }
     increment(kinds, kind);
     print_call(call);
-    let refusal = calling::run(call, argument, room, &given[..length], bytes, numbers);
+    let refusal = calling::run(
+        call,
+        argument,
+        room,
+        &given[..length],
+        bytes,
+        numbers,
+        integers,
+    );
     increment(counts, place(call, refusal));
     true
 }
@@ -121,11 +132,12 @@ fn run_records(
     given: &mut [u8],
     bytes: &mut [u8],
     numbers: &mut [u32],
+    integers: &mut [i64],
 ) -> bool {
     let mut left = records;
     while left > 0 {
         left -= 1;
-        if !run_record(counts, kinds, given, bytes, numbers) {
+        if !run_record(counts, kinds, given, bytes, numbers, integers) {
             return false;
         }
     }
@@ -139,15 +151,23 @@ fn number_buffer() -> [u32; 1024]
     [0; 1024]
 }
 
+// 1,024 zeros of 64 bits, for floors, with the same `ensures`.
+fn integer_buffer() -> [i64; 1024]
+    ensures { λ r. ⌜ 1024 ≡ length r ⌝ }
+{
+    [0; 1024]
+}
+
 fn main() {
     let mut head = [0u8; 4];
     io::read_full(STDIN_FILENO, &mut head);
     let records = fields::read_u32(&head, 0);
     let mut counts = [0u64; 480];
-    let mut kinds = [0u64; 64];
+    let mut kinds = [0u64; 96];
     let mut given = io::buffer();
     let mut bytes = io::buffer();
     let mut numbers = number_buffer();
+    let mut integers = integer_buffer();
     if !run_records(
         records,
         &mut counts,
@@ -155,6 +175,7 @@ fn main() {
         &mut given,
         &mut bytes,
         &mut numbers,
+        &mut integers,
     ) {
         word(b"the input is not in the runner's format\n");
     }
@@ -164,4 +185,5 @@ fn main() {
     print_total(&counts, 4);
     print_total(&counts, 5);
     print_total(&counts, 6);
+    print_total(&counts, 7);
 }

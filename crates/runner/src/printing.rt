@@ -68,3 +68,14 @@ pub fn decimals(numbers: &[u32], count: usize) {
         i += 1;
     }
 }
+
+// The first `count` integers in decimal, with a space before each.
+pub fn signed_decimals(integers: &[i64], count: usize) {
+    let end = least(count, integers.len());
+    let mut i = 0;
+    while i < end {
+        word(b" ");
+        signed(integers[i]);
+        i += 1;
+    }
+}

@@ -27,13 +27,20 @@ sums c =
 returns : tie.Need-returns
 returns c = uncovered (sums (c .before)) (c .if1 .taken)
 
-floor-fits : (c : tie.After-struct-told) → SFits w64 (c .before .search .result .floor)
+-- from after the search back to it, and to the cover
+abbrev searched : tie.After-struct-told → tie.After-search
+searched c = c .before .before
+
+abbrev covered : tie.After-struct-told → tie.Else1
+covered c = searched c .before .before
+
+floor-fits : (c : tie.After-struct-told) → SFits w64 (searched c .search .result .floor)
 floor-fits c = search needs
 
 distance-requires : tie.Need-distance-requires
 distance-requires c κs =
-    let e = c .before .before in
-    rw (toZ-ofZ {w = w64} (floor-fits c)) (measurable (sums (e .before)) (e .if1 .left) (c .before .search .ensures) (entry (summed (e .before)) .pre .0))
+    let e = covered c in
+    rw (toZ-ofZ {w = w64} (floor-fits c)) (measurable (sums (e .before)) (e .if1 .left) (searched c .search .ensures) (entry (summed (e .before)) .pre .0))
 
 returns-2 : tie.Need-returns-2
 returns-2 c =
@@ -44,8 +51,8 @@ returns-2 c =
 returns-3 : tie.Need-returns-3
 returns-3 c =
     let b = c .before in
-    let e = b .before .before in
-    accepted (sums (e .before)) (e .if1 .left) (b .before .search .ensures)
+    let e = covered b in
+    accepted (sums (e .before)) (e .if1 .left) (searched b .search .ensures)
     (c .distance .ensures ∙ ap (λ (z : ℤ). natural (pos (e .before .before .sums .given .0 .0) -ℤ z)) (toZ-ofZ {w = w64} (floor-fits b)))
 
 pub judge-outputs-spec : {M : Type 1} → statement M
@@ -56,6 +63,7 @@ judge-outputs-spec =
     (λ c. search needs)
     (λ c. search needs)
     returns
+    (λ c. search needs)
     (λ c κs. search needs)
     distance-requires
     returns-2

@@ -37,3 +37,17 @@ module _ (f : ℕ → ℤ) where
   pub greatest-of : {n : ℕ} {ms : List ℕ} → List·Memᴰ n ms → Greatest f ms (greatestAt f ms)
   greatest-of {ms = []} h = absurd (List·Memᴰ·not-nil h)
   greatest-of {ms = m ∷ ms} h = greatest-at m ms
+
+-- of two functions that agree, or of which one is nowhere greater
+pub greatest-same : (f g : ℕ → ℤ) (ms : List ℕ) → ((m : ℕ) → List·Memᴰ m ms → f m ≡ g m) → greatestAt f ms ≡ greatestAt g ms
+unfolding greatestAt
+greatest-same f g [] h = refl
+greatest-same f g (m ∷ []) h = h m (List·Memᴰ·head refl)
+greatest-same f g (m ∷ n ∷ ms) h = rw (h m (List·Memᴰ·head refl), greatest-same f g (n ∷ ms) (λ k i. h k (List·Memᴰ·tail i)))
+
+pub greatest-rises : (f g : ℕ → ℤ) {n : ℕ} {ms : List ℕ} → List·Memᴰ n ms → ((m : ℕ) → List·Memᴰ m ms → f m ≤ℤ g m) → greatestAt f ms ≤ℤ greatestAt g ms
+greatest-rises f g {n} {ms} i h =
+    let (m, k, e) = greatest-of f i .one in
+    let below = h m k in
+    let top = greatest-of g i .each m k in
+    rw (← e) (omega (arith, ints))

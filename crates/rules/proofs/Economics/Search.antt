@@ -236,6 +236,10 @@ module _ {X : Type 0} {Allowed : X → Type 0} {cost net : X → ℕ} {s target 
       (λ d. either-way few (eqb (net x) target) (λ e. omega arith) (λ e. omega (arith, halving-few choose net target 16 0 x (65536 ∷ 0 ∷ []))))
       (λ d. omega arith))
 
+  -- 0 is evaluated, and nothing above 65,536
+  pub evaluated-seen : Seen (search choose net target first .evaluated)
+  evaluated-seen = search-ends .seen
+
   -- the law of the dual bisection
   pub searched : Searched Allowed cost net s target choose value first (search choose net target first)
   searched =

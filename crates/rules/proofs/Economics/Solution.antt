@@ -20,7 +20,7 @@ use Rattle.rules.proofs.Sound.{Sound}
 use Rattle.rules.proofs.Economics.Allocations.{Given, Proper, relaxation, greatest-given, greatest-net}
 use Rattle.rules.proofs.Economics.Lowering.{selected-tied}
 use Rattle.rules.proofs.Economics.Quantities.{natural-up}
-use Rattle.rules.proofs.Economics.Search.{Searched, searched, below-first}
+use Rattle.rules.proofs.Economics.Search.{Seen, Searched, evaluated-seen, searched, below-first}
 use Rattle.rules.proofs.Economics.Solvable.{units-of-problem, given-allocation, allocation-given, solvable-available, solvable-covers, case-proper}
 
 -- a gap that is not negative is exact
@@ -43,6 +43,12 @@ module _ (q : Problem) (proper : Every Proper (q .offers)) (solves : solvable q 
   shown =
       let available = solvable-available q proper solves in
       searched (relaxation q available (λ m. selected m q) (selected-tied q available)) (greatestOutputs q) (greatest-given (q .offers) available) (solvable-covers q solves)
+
+  pub evaluated : Seen (found q .evaluated)
+  unfolding found greatestOutputs
+  evaluated =
+      let available = solvable-available q proper solves in
+      evaluated-seen (relaxation q available (λ m. selected m q) (selected-tied q available)) (greatestOutputs q) (greatest-given (q .offers) available) (solvable-covers q solves)
 
   -- what the reply's subtractions need: the best covers, and costs at least the greatest floor, which is not negative
   pub best-covers : target q ≤ totalNet (unitsOf q) (found q .best)

@@ -128,6 +128,9 @@ same-length-7 c = search needs
 same-length-8 : tie.Need-same-length-8
 same-length-8 c = search needs
 
+same-length-9 : tie.Need-same-length-9
+same-length-9 c = search needs
+
 returns-5 : tie.Need-returns-5
 returns-5 c = search needs
 
@@ -176,4 +179,5 @@ run-record-spec =
     same-length-6
     same-length-7
     same-length-8
+    same-length-9
     returns-5)

@@ -7,11 +7,11 @@ use Rattle.runner.proofs.run_records.Statement.{statement}
 use Rattle.runner.proofs.run_records.Tie as tie
 
 abbrev Inv-loop : tie.InvT-loop
-Inv-loop records counts₀ kinds₀ given₀ bytes₀ numbers₀ left₀ counts kinds given bytes numbers left =
-    (length counts ≡ length counts₀) × (length kinds ≡ length kinds₀) × (length given ≡ length given₀) × (length bytes ≡ length bytes₀) × (length numbers ≡ length numbers₀)
+Inv-loop records counts₀ kinds₀ given₀ bytes₀ numbers₀ integers₀ left₀ counts kinds given bytes numbers integers left =
+    (length counts ≡ length counts₀) × (length kinds ≡ length kinds₀) × (length given ≡ length given₀) × (length bytes ≡ length bytes₀) × (length numbers ≡ length numbers₀) × (length integers ≡ length integers₀)
 
 abbrev μ-loop : tie.MeasureT-loop
-μ-loop records counts₀ kinds₀ given₀ bytes₀ numbers₀ left₀ counts kinds given bytes numbers left = left
+μ-loop records counts₀ kinds₀ given₀ bytes₀ numbers₀ integers₀ left₀ counts kinds given bytes numbers integers left = left
 
 loop-holds : tie.Need-loop-holds Inv-loop μ-loop
 loop-holds c = omega arith
@@ -37,6 +37,9 @@ same-length-4 c = omega arith
 same-length-5 : tie.Need-same-length-5 Inv-loop μ-loop
 same-length-5 c = omega arith
 
+same-length-6 : tie.Need-same-length-6 Inv-loop μ-loop
+same-length-6 c = omega arith
+
 returns : tie.Need-returns Inv-loop μ-loop
 returns c = search needs
 
@@ -45,9 +48,6 @@ loop-less c = omega arith
 
 loop-again : tie.Need-loop-again Inv-loop μ-loop
 loop-again c = omega arith
-
-same-length-6 : tie.Need-same-length-6 Inv-loop μ-loop
-same-length-6 c = omega arith
 
 same-length-7 : tie.Need-same-length-7 Inv-loop μ-loop
 same-length-7 c = omega arith
@@ -60,6 +60,12 @@ same-length-9 c = omega arith
 
 same-length-10 : tie.Need-same-length-10 Inv-loop μ-loop
 same-length-10 c = omega arith
+
+same-length-11 : tie.Need-same-length-11 Inv-loop μ-loop
+same-length-11 c = omega arith
+
+same-length-12 : tie.Need-same-length-12 Inv-loop μ-loop
+same-length-12 c = omega arith
 
 returns-2 : tie.Need-returns-2 Inv-loop μ-loop
 returns-2 c = search needs
@@ -78,12 +84,14 @@ run-records-spec =
     same-length-3
     same-length-4
     same-length-5
+    same-length-6
     returns
     loop-less
     loop-again
-    same-length-6
     same-length-7
     same-length-8
     same-length-9
     same-length-10
+    same-length-11
+    same-length-12
     returns-2)

@@ -4,14 +4,17 @@ use Rattle.bisection.proofs.Endings.{stateable, solved}
 use Rattle.bisection.proofs.dispatching.solve.Statement.{statement}
 use Rattle.bisection.proofs.dispatching.solve.Tie as tie
 
+slice-aggregate-search : tie.Need-slice-aggregate-search
+slice-aggregate-search c = search needs
+
 search-requires : tie.Need-search-requires
 search-requires c κs = search needs
 
 stated-requires : tie.Need-stated-requires
-stated-requires c κs = stateable (c .before .pre) (c .search .ensures)
+stated-requires c κs = stateable (c .before .before .before .pre) (c .before .search .ensures)
 
 returns : tie.Need-returns
-returns c = solved (c .stated .ensures) (c .before .search .ensures)
+returns c = solved (c .stated .ensures) (c .before .before .search .ensures)
 
 pub solve-spec : {M : Type 1} → statement M
-solve-spec = tie.close (tie.spec search-requires stated-requires returns)
+solve-spec = tie.close (tie.spec slice-aggregate-search search-requires stated-requires returns)

@@ -1,5 +1,5 @@
 -- `bisection::steps::halve` meets its contract. The loop keeps what step 4 has found so far (`Halving`); each way out of a turn is one of its three outcomes, of what the evaluation takes (`Selecting`).
-use Prim.Native.Nat.{_/_, _<_}
+use Prim.Native.Nat.{_+_, _/_, _<_}
 use lib.Pow.{pow-pos}
 use native.Mathlib.Omega.{arith}
 use mathlib.Core.Path.{_≡_, refl, ap, _∙_}
@@ -14,18 +14,19 @@ use denote.Ref.{now}
 use borrow.Author.Needs.{needs}
 use Rattle.rules.specs.Numbers.{dividedUp}
 use Rattle.rules.specs.Problem.{Problem, target}
-use Rattle.bisection.specs.Search.{Holding}
+use Rattle.bisection.specs.Search.{Holding, recorded}
 use Rattle.bisection.proofs.Selecting.{evaluable, dualable, lowerable, selects, selects-lowered, lowered-covers}
+use Rattle.bisection.proofs.Tracing.{recorded-length}
 use Rattle.bisection.proofs.Halving.{half, Halving, halving-starts, halving-ends, equal-net, covering, uncovered}
 use Rattle.bisection.proofs.steps.halve.Statement.{statement}
 use Rattle.bisection.proofs.steps.halve.Tie as tie
 
 abbrev Inv-loop : tie.InvT-loop
-Inv-loop coefficients ends ranges n t best₀ floor₀ evaluations₀ outputs₀ least₀ low₀ width₀ best floor evaluations outputs least low width =
-    (32 ≡ length outputs) × (32 ≡ length least) × Halving (Holding coefficients ends ranges n t) n (record { best = best₀; floor = toZ w64 floor₀; evaluations = evaluations₀ }) (record { best = best; floor = toZ w64 floor; evaluations = evaluations }) low width
+Inv-loop coefficients ends ranges n t trace₀ best₀ floor₀ evaluations₀ outputs₀ least₀ low₀ width₀ trace best floor evaluations outputs least low width =
+    (32 ≡ length outputs) × (32 ≡ length least) × Halving (Holding coefficients ends ranges n t) n (record { best = best₀; floor = toZ w64 floor₀; evaluations = evaluations₀ }) trace₀ (record { best = best; floor = toZ w64 floor; evaluations = evaluations }) trace low width × (length trace ≡ length trace₀)
 
 abbrev μ-loop : tie.MeasureT-loop
-μ-loop coefficients ends ranges n t best₀ floor₀ evaluations₀ outputs₀ least₀ low₀ width₀ best floor evaluations outputs least low width = width
+μ-loop coefficients ends ranges n t trace₀ best₀ floor₀ evaluations₀ outputs₀ least₀ low₀ width₀ trace best floor evaluations outputs least low width = width
 
 -- ---- from the loop back to the entry
 
@@ -42,7 +43,7 @@ demanded s q h = h .demanded
 loop-holds : tie.Need-loop-holds Inv-loop μ-loop
 loop-holds c =
     let s = c .before .before in
-    (refl, refl, halving-starts (record { sized = s .pre .1 .sized; evaluations = s .pre .1 .evaluations }))
+    (refl, refl, halving-starts (record { sized = s .pre .1 .sized; evaluations = s .pre .1 .evaluations }), refl)
 
 add-middle : tie.Need-add-middle Inv-loop μ-loop
 add-middle c = omega (arith, c .before .loop .inv .2 .within)
@@ -67,6 +68,9 @@ dual-of-requires c κs =
     let l = e .before .before .before .before in
     dualable (entry l .pre .0) (omega (arith, l .loop .inv .2 .within)) (e .evaluate .ensures .allocates .sized)
 
+note-requires : tie.Need-note-requires Inv-loop μ-loop
+note-requires c κs = let l = c .before .before .before .before .before .before .before .before in omega (arith, l .loop .inv .2 .within)
+
 floor-of-requires : tie.Need-floor-of-requires Inv-loop μ-loop
 floor-of-requires c κs = tt
 
@@ -75,30 +79,42 @@ greater-requires c κs = tt
 
 -- ---- after it
 
+abbrev dual : tie.After-greater Inv-loop μ-loop → tie.After-dual-of Inv-loop μ-loop
+dual c = c .before .before .before .before .before
+
 abbrev evaluated : tie.After-greater Inv-loop μ-loop → tie.After-evaluate Inv-loop μ-loop
-evaluated c = c .before .before .before .before .before
+evaluated c = dual c .before .before .before
 
 abbrev turn : tie.After-greater Inv-loop μ-loop → tie.Else1 Inv-loop μ-loop
 turn c = evaluated c .before .before .before
 
 -- the arrays are as long as they were
 outputs-kept : (c : tie.After-greater Inv-loop μ-loop) → 32 ≡ length (evaluated c .evaluate .last .1 .1 .1 .1 .1 .0)
-outputs-kept c = omega (arith, c .before .before .before .before .outputs2 .given, turn c .before .loop .inv .0)
+outputs-kept c = omega (arith, dual c .before .before .outputs2 .given, turn c .before .loop .inv .0)
 
 least-kept : (c : tie.After-greater Inv-loop μ-loop) → 32 ≡ length (evaluated c .evaluate .last .1 .1 .1 .1 .1 .1 .0)
-least-kept c = omega (arith, c .before .before .before .least2 .given, turn c .before .loop .inv .1)
+least-kept c = omega (arith, dual c .before .least2 .given, turn c .before .loop .inv .1)
+
+-- the trace, as it is written
+trace-is : (c : tie.After-greater Inv-loop μ-loop) → let l = turn c .before .loop in c .before .before .before .note .last .0 ≡ recorded (l .trace) (l .evaluations) (l .low + l .width / 2) (dual c .dual-of .result)
+trace-is c = let n = c .before .before .before .note in n .ensures ∙ ap (λ (z : ℤ). recorded (turn c .before .loop .trace) (turn c .before .loop .evaluations) (turn c .before .loop .low + turn c .before .loop .width / 2) z) (toZ-ofZ {w = w64} (search needs))
+
+trace-kept : (c : tie.After-greater Inv-loop μ-loop) → length (c .before .before .before .note .last .0) ≡ length (now (entry (turn c .before) .args .trace))
+trace-kept c =
+    let l = turn c .before .loop in
+    ap length (trace-is c) ∙ recorded-length (l .trace) (l .evaluations) (l .low + l .width / 2) (dual c .dual-of .result) ∙ l .inv .3
 
 add-evaluations : tie.Need-add-evaluations Inv-loop μ-loop
 add-evaluations c = omega (arith, turn c .before .loop .inv .2 .left)
 
 -- the floor, as it is read back
-floor-is : (c : tie.After-greater Inv-loop μ-loop) → let d = c .before .before .dual-of .result in let z = toZ w64 (turn c .before .loop .floor) in toZ w64 (ofZ w64 (c .greater .result)) ≡ cond (leZ (dividedUp d 100000) z) z (dividedUp d 100000)
+floor-is : (c : tie.After-greater Inv-loop μ-loop) → let d = dual c .dual-of .result in let z = toZ w64 (turn c .before .loop .floor) in toZ w64 (ofZ w64 (c .greater .result)) ≡ cond (leZ (dividedUp d 100000) z) z (dividedUp d 100000)
 floor-is c =
     let f = c .before .floor-of in
-    let e = c .before .before .dual-of in
+    let e = dual c .dual-of in
     let z = toZ w64 (turn c .before .loop .floor) in
-    let dual : toZ w64 (ofZ w64 (e .result)) ≡ e .result = toZ-ofZ {w = w64} (search needs) in
-    let read : toZ w64 (ofZ w64 (f .result)) ≡ dividedUp (e .result) 100000 = toZ-ofZ {w = w64} (search needs) ∙ f .ensures ∙ ap (λ (x : ℤ). dividedUp x 100000) dual in
+    let kept : toZ w64 (ofZ w64 (e .result)) ≡ e .result = toZ-ofZ {w = w64} (search needs) in
+    let read : toZ w64 (ofZ w64 (f .result)) ≡ dividedUp (e .result) 100000 = toZ-ofZ {w = w64} (search needs) ∙ f .ensures ∙ ap (λ (x : ℤ). dividedUp x 100000) kept in
     toZ-ofZ {w = w64} (search needs) ∙ c .greater .ensures ∙ ap (λ (x : ℤ). cond (leZ x z) z x) read
 
 smaller : (c : tie.Else1 Inv-loop μ-loop) → c .before .loop .width / 2 < c .before .loop .width
@@ -132,9 +148,9 @@ loop-again c =
     let e = covers (c .before) in
     let g = e .before in
     let x = turn g in
-    let v = selects-lowered _ _ (evaluated g .evaluate .ensures) (g .before .before .dual-of .ensures) (e .if2 .taken) (c .before .before .lower .ensures) in
-    let enough = lowered-covers _ _ (evaluated g .evaluate .ensures) (g .before .before .dual-of .ensures) (entry (x .before) .pre .0) (e .if2 .taken) (c .before .before .lower .ensures) in
-    rw (floor-is g) (omega (arith, outputs-kept g, c .before .outputs4 .given), least-kept g, covering (x .before .loop .inv .2) (x .if1 .left) v (demanded (entry (x .before))) (omega (arith, enough, c .if3 .left)))
+    let v = selects-lowered _ _ (evaluated g .evaluate .ensures) (dual g .dual-of .ensures) (e .if2 .taken) (c .before .before .lower .ensures) in
+    let enough = lowered-covers _ _ (evaluated g .evaluate .ensures) (dual g .dual-of .ensures) (entry (x .before) .pre .0) (e .if2 .taken) (c .before .before .lower .ensures) in
+    rw (floor-is g) (omega (arith, outputs-kept g, c .before .outputs4 .given), least-kept g, covering (x .before .loop .inv .2) (x .if1 .left) v (demanded (entry (x .before))) (trace-is g) (omega (arith, enough, c .if3 .left)), trace-kept g)
 
 -- ---- it does not cover
 
@@ -145,8 +161,14 @@ loop-again-2 : tie.Need-loop-again-2 Inv-loop μ-loop
 loop-again-2 c =
     let g = c .before in
     let x = turn g in
-    let v = selects _ _ (evaluated g .evaluate .ensures) (g .before .before .dual-of .ensures) (omega (arith, c .if2 .left)) in
-    rw (floor-is g) (outputs-kept g, least-kept g, uncovered (x .before .loop .inv .2) (x .if1 .left) v (demanded (entry (x .before))) (omega (arith, c .if2 .left)))
+    let v = selects _ _ (evaluated g .evaluate .ensures) (dual g .dual-of .ensures) (omega (arith, c .if2 .left)) in
+    rw (floor-is g) (outputs-kept g, least-kept g, uncovered (x .before .loop .inv .2) (x .if1 .left) v (demanded (entry (x .before))) (trace-is g) (omega (arith, c .if2 .left)), trace-kept g)
+
+same-length : tie.Need-same-length Inv-loop μ-loop
+same-length c = c .before .loop .inv .3
+
+same-length-2 : tie.Need-same-length-2 Inv-loop μ-loop
+same-length-2 c = trace-kept (covers (c .before) .before)
 
 returns : tie.Need-returns Inv-loop μ-loop
 returns c = rw (toZ-ofZ {w = w64} (start-fits (entry (c .before)))) at (halving-ends (c .before .loop .inv .2) (c .if1 .taken))
@@ -156,8 +178,8 @@ returns-2 c =
     let e = covers (c .before) in
     let g = e .before in
     let x = turn g in
-    let v = selects-lowered _ _ (evaluated g .evaluate .ensures) (g .before .before .dual-of .ensures) (e .if2 .taken) (c .before .before .lower .ensures) in
-    let h = equal-net (x .before .loop .inv .2) (x .if1 .left) v (demanded (entry (x .before))) (c .if3 .taken) in
+    let v = selects-lowered _ _ (evaluated g .evaluate .ensures) (dual g .dual-of .ensures) (e .if2 .taken) (c .before .before .lower .ensures) in
+    let h = equal-net (x .before .loop .inv .2) (x .if1 .left) v (demanded (entry (x .before))) (trace-is g) (c .if3 .taken) in
     rw (floor-is g) (rw (toZ-ofZ {w = w64} (start-fits (entry (x .before)))) at h)
 
 pub halve-spec : {M : Type 1} → statement M
@@ -172,6 +194,7 @@ halve-spec =
     slice-aggregate-evaluate-2
     evaluate-requires
     dual-of-requires
+    note-requires
     floor-of-requires
     greater-requires
     add-evaluations
@@ -182,5 +205,7 @@ halve-spec =
     loop-again
     loop-less-2
     loop-again-2
+    same-length
     returns
+    same-length-2
     returns-2)

@@ -1,0 +1,55 @@
+-- Rules 20.2, 20.5 to 20.7 and 20.9 of docs/SPECIFICATION.md: what holds of every floor that the call writes, and what it refuses, as statements. (They are proved in proofs/Claims.)
+use Prim.Native.Nat.{ℕ, _≤_, _<_}
+use mathlib.Core.Bool.{true}
+use mathlib.Core.List.{List}
+use mathlib.Core.Path.{_≡_}
+use mathlib.Core.Logic.{_↔_}
+use lib.Dec.{leb}
+use lib.IntN.{ℤ, pos}
+use lib.ListN.{length, getD}
+use lib.Signed.{_≤ℤ_}
+use Rattle.rules.specs.Lists.{all}
+use Rattle.rules.specs.Layout.{Case, caseOf}
+use Rattle.rules.specs.Problem.{totalCost, totalNet, covers}
+use Rattle.rules.specs.Calls.{dispatched}
+use Rattle.rules.specs.Promise.{Permitted, costLessGap, replyIn}
+use Rattle.rules.specs.declared.Refusal.{Refusal}
+use Rattle.rules.specs.declared.Dispatched.{Dispatched}
+use Rattle.sensitivity.specs.declared.Floored.{Floored}
+use Rattle.sensitivity.specs.Floors.{FloorsResult}
+
+-- floors for demands of a case
+pub record Floors (c : Case) (demands : List ℕ) (floors : List ℤ) : Type 0 where
+  -- (rule 20.5) whatever is permitted and covers a demand costs at least its floor
+  pub nobodySpendsLess : (i : ℕ) → i < length demands → (ps : List ℕ) → Permitted c ps → covers (getD demands i 0) (totalNet (c .units) ps) ≡ true → getD floors i (pos 0) ≤ℤ pos (totalCost (c .units) ps)
+  -- (rule 20.7) a greater demand has no smaller floor
+  pub rises : (i j : ℕ) → i < length demands → j < length demands → getD demands i 0 ≤ getD demands j 0 → getD floors i (pos 0) ≤ℤ getD floors j (pos 0)
+  -- (rule 20.9) no floor is negative
+  pub notNegative : (i : ℕ) → i < length demands → pos 0 ≤ℤ getD floors i (pos 0)
+
+-- of every call that writes floors: there is one to a demand
+abbrev pub Bounds : (List ℕ → List ℕ → List ℤ → FloorsResult) → Type 0
+Bounds call =
+    (file demands : List ℕ) (floors : List ℤ) (n : ℕ)
+    → call file demands floors .answer ≡ Floored.Written n
+    → (n ≡ length demands) × Floors (caseOf file) demands (call file demands floors .floors)
+
+-- (rule 20.6) the floor for the case's own demand is the reply's cost less its gap
+abbrev pub OwnDemand : (List ℕ → List ℕ → List ℤ → FloorsResult) → Type 0
+OwnDemand call =
+    (file demands buffer : List ℕ) (floors : List ℤ) (n k i : ℕ)
+    → call file demands floors .answer ≡ Floored.Written n
+    → dispatched file buffer .answer ≡ Dispatched.Replied k
+    → i < length demands
+    → getD demands i 0 ≡ caseOf file .demand
+    → getD (call file demands floors .floors) i (pos 0) ≡ costLessGap (replyIn (dispatched file buffer .reply))
+
+-- (rule 20.2) where the demands are valid and there is room, it refuses what dispatch refuses, with the same number
+abbrev pub RefusesAsDispatch : (List ℕ → List ℕ → List ℤ → FloorsResult) → Type 0
+RefusesAsDispatch call =
+    (file demands buffer : List ℕ) (floors : List ℤ) (r : Refusal)
+    → length demands ≤ 96
+    → all (λ d. leb d 320000) demands ≡ true
+    → length demands ≤ length floors
+    → 92 ≤ length buffer
+    → (call file demands floors .answer ≡ Floored.Refused r) ↔ (dispatched file buffer .answer ≡ Dispatched.Refused r)

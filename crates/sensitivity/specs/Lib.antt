@@ -1,0 +1,4 @@
+pub mod Floors
+pub mod Claims
+pub mod Held
+pub mod Cases
