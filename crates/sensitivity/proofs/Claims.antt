@@ -16,7 +16,7 @@ use Rattle.rules.specs.Numbers.{dividedUp, greatestAt}
 use Rattle.rules.specs.Layout.{caseOf}
 use Rattle.rules.specs.Refusal.{_refuses_, _then_}
 use Rattle.rules.specs.Problem.{totalCost, totalNet, covers, Problem, target, problemOf, problemIn}
-use Rattle.rules.specs.Choice.{selected, floor, greatestFloor}
+use Rattle.rules.specs.Choice.{selected, floor}
 use Rattle.rules.specs.Bisection.{found, solvable}
 use Rattle.rules.specs.Calls.{caseVerdict, dispatchVerdict, dispatchEnds, dispatched}
 use Rattle.rules.specs.Promise.{Permitted, GreatestFloor, costLessGap, replyIn}
@@ -39,10 +39,15 @@ use Rattle.rules.proofs.Demand3.{case-accepted, demand3}
 use Rattle.rules.proofs.Replied.{replied}
 use Rattle.sensitivity.specs.declared.Floored.{Floored}
 use Rattle.sensitivity.specs.Floors.{dualFor, floorFor, floorsVerdict, floorsEnd, floored}
-use Rattle.sensitivity.specs.Claims.{Floors, Bounds, OwnDemand, RefusesAsDispatch}
+use Rattle.sensitivity.specs.Claims.{OfThatDemand, Floors, Bounds, OwnDemand, RefusesAsDispatch}
 use Rattle.sensitivity.proofs.Carried.{at, floor-for, dual-rises}
 use Rattle.sensitivity.proofs.Outcomes.{ended}
 use Rattle.sensitivity.proofs.Tracing.{seen}
+
+-- (rule 20.3)
+pub of-that-demand : OfThatDemand floorFor
+unfolding floorFor
+of-that-demand q d = greatest-same (λ m. dividedUp (dualFor m q d) 100000) (λ m. floor m (at q d)) (found q .evaluated) (λ m _. floor-for m q d)
 
 -- ---- of an accepted case
 
@@ -84,12 +89,8 @@ module _ (file : List ℕ) (e : caseVerdict file ≡ Verdict.Accepted) where
       greatest-rises (λ m. dividedUp (dualFor m q d) 100000) (λ m. dividedUp (dualFor m q d′) 100000) (seen file e .zero-seen) (λ m _. divided-rises {k = 100000} (omega arith) (dual-rises m q d d′ h))
 
   -- (rule 20.6)
-  own-floor : floorFor q (q .demand) ≡ greatestFloor q (found q .evaluated)
-  unfolding floorFor
-  own-floor = greatest-same (λ m. dividedUp (dualFor m q (q .demand)) 100000) (λ m. floor m q) (found q .evaluated) (λ m _. floor-for m q (q .demand))
-
   own-greatest : GreatestFloor q (floorFor q (q .demand))
-  own-greatest = rw own-floor (greatest-floor q (case-proper (caseOf file) sound) solves)
+  own-greatest = rw (of-that-demand q (q .demand)) (greatest-floor q (case-proper (caseOf file) sound) solves)
 
 -- there is one greatest floor
 one-greatest : (q : Problem) {y z : ℤ} → GreatestFloor q y → GreatestFloor q z → y ≡ z

@@ -1,4 +1,4 @@
--- Rules 20.2, 20.5 to 20.7 and 20.9 of docs/SPECIFICATION.md: what holds of every floor that the call writes, and what it refuses, as statements. (They are proved in proofs/Claims.)
+-- Rules 20.2, 20.3, 20.5 to 20.7 and 20.9 of docs/SPECIFICATION.md: what holds of every floor that the call writes, and what it refuses, as statements. (They are proved in proofs/Claims.)
 use Prim.Native.Nat.{ℕ, _≤_, _<_}
 use mathlib.Core.Bool.{true}
 use mathlib.Core.List.{List}
@@ -10,13 +10,19 @@ use lib.ListN.{length, getD}
 use lib.Signed.{_≤ℤ_}
 use Rattle.rules.specs.Lists.{all}
 use Rattle.rules.specs.Layout.{Case, caseOf}
-use Rattle.rules.specs.Problem.{totalCost, totalNet, covers}
+use Rattle.rules.specs.Problem.{Problem, totalCost, totalNet, covers}
+use Rattle.rules.specs.Choice.{greatestFloor}
+use Rattle.rules.specs.Bisection.{found}
 use Rattle.rules.specs.Calls.{dispatched}
 use Rattle.rules.specs.Promise.{Permitted, costLessGap, replyIn}
 use Rattle.rules.specs.declared.Refusal.{Refusal}
 use Rattle.rules.specs.declared.Dispatched.{Dispatched}
 use Rattle.sensitivity.specs.declared.Floored.{Floored}
 use Rattle.sensitivity.specs.Floors.{FloorsResult}
+
+-- (rule 20.3) the floor for d is the greatest of the floors of the same offers with demand d, over the multipliers that the search evaluates for the case's own
+abbrev pub OfThatDemand : (Problem → ℕ → ℤ) → Type 0
+OfThatDemand floorOf = (q : Problem) (d : ℕ) → floorOf q d ≡ greatestFloor (record { demand = d; offers = q .offers }) (found q .evaluated)
 
 -- floors for demands of a case
 pub record Floors (c : Case) (demands : List ℕ) (floors : List ℤ) : Type 0 where
