@@ -191,13 +191,34 @@ static void compare_damaged(uint64_t *state, const struct case_file *c, uint32_t
 void compare_small(struct tally *first, struct tally *second)
 {
     uint64_t state = SMALL_CASES_SEED, state_of_second = 20240603;
-    static struct case_file c, twin;
+    static struct case_file c, in_edition_2;
     for (int i = 0; i < SMALL_CASES; i++) {
         make_small_case(&state, &c);
         compare(c.bytes, c.length, SHAHFUREEL_REPLY_BYTES, first);
-        to_edition_2(&state_of_second, &c, &twin);
-        compare(twin.bytes, twin.length, SHAHFUREEL_REPLY_BYTES, second);
+        to_edition_2(&state_of_second, &c, &in_edition_2);
+        compare(in_edition_2.bytes, in_edition_2.length, SHAHFUREEL_REPLY_BYTES, second);
     }
+}
+
+void compare_small_cases(uint64_t seed, void (*compare_case)(uint64_t *state, const struct case_file *c))
+{
+    uint64_t state = seed;
+    static struct case_file c, in_edition_2;
+    for (int i = 0; i < SMALL_CASES; i++) {
+        make_small_case(&state, &c);
+        compare_case(&state, &c);
+        to_edition_2(&state, &c, &in_edition_2);
+        compare_case(&state, &in_edition_2);
+    }
+}
+
+void print_refusals(const uint64_t refused[SHAHFUREEL_LENGTH_MIN])
+{
+    printf("; refusals by number:");
+    for (uint32_t number = 1; number < SHAHFUREEL_LENGTH_MIN; number++)
+        if (refused[number] != 0)
+            printf(" %u: %llu", (unsigned)number, (unsigned long long)refused[number]);
+    printf("\n");
 }
 
 void compare_group(const struct group *g, struct tally *whole, struct tally *damaged)
@@ -212,11 +233,11 @@ void compare_group(const struct group *g, struct tally *whole, struct tally *dam
 void compare_in_edition_2(const struct group *g, struct tally *whole, struct tally *damaged)
 {
     uint64_t state = 2 + 64 * g->units + g->zones;
-    static struct case_file twin;
+    static struct case_file in_edition_2;
     for (uint32_t i = 0; i < CASES_IN_GROUP; i++) {
-        to_edition_2(&state, &g->cases[i], &twin);
-        compare(twin.bytes, twin.length, SHAHFUREEL_REPLY_BYTES, whole);
-        compare_damaged(&state, &twin, g->units, damaged);
+        to_edition_2(&state, &g->cases[i], &in_edition_2);
+        compare(in_edition_2.bytes, in_edition_2.length, SHAHFUREEL_REPLY_BYTES, whole);
+        compare_damaged(&state, &in_edition_2, g->units, damaged);
     }
 }
 

@@ -14,6 +14,12 @@ struct tally {
 /* Dispatches small cases by both programs, in edition 1 and in edition 2. Ends the process where they differ. */
 void compare_small(struct tally *first, struct tally *second);
 
+/* Calls a comparison on each of the small cases that a seed makes, in edition 1 and in edition 2. */
+void compare_small_cases(uint64_t seed, void (*compare_case)(uint64_t *state, const struct case_file *c));
+
+/* Prints how often each refusal was given, and ends the line. */
+void print_refusals(const uint64_t refused[SHAHFUREEL_LENGTH_MIN]);
+
 /* Dispatches every case of the group by both programs, and damaged copies of it. Ends the process where they differ. */
 void compare_group(const struct group *g, struct tally *whole, struct tally *damaged);
 

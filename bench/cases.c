@@ -116,12 +116,12 @@ void to_edition_2(uint64_t *state, const struct case_file *from, struct case_fil
     for (uint32_t i = 0; i < units; i++) {
         uint32_t offset = get_u16(from->bytes + 8 + 4 * i), length = get_u16(from->bytes + 10 + 4 * i);
         const uint8_t *body = from->bytes + offset;
-        uint8_t *twin = to->bytes + offset + B1_BYTES * i;
+        uint8_t *widened = to->bytes + offset + B1_BYTES * i;
         put(to->bytes + 8 + 4 * i, offset + B1_BYTES * i, 2);
         put(to->bytes + 10 + 4 * i, length + B1_BYTES, 2);
-        memcpy(twin, body, B1_AT);
-        put(twin + B1_AT, (uint32_t)make_b1(state, get_u16(body + B_AT)), B1_BYTES);
-        memcpy(twin + B1_AT + B1_BYTES, body + B1_AT, length - B1_AT);
+        memcpy(widened, body, B1_AT);
+        put(widened + B1_AT, (uint32_t)make_b1(state, get_u16(body + B_AT)), B1_BYTES);
+        memcpy(widened + B1_AT + B1_BYTES, body + B1_AT, length - B1_AT);
     }
     to->length = from->length + B1_BYTES * units;
 }

@@ -1,6 +1,7 @@
 /* Times floors for 96 demands against plain C and against one dispatch. It first compares the answers of both programs. */
 #include "floors.h"
 
+#include "agreement.h"
 #include "measure.h"
 #include "plain.h"
 
@@ -92,26 +93,11 @@ static void compare_case(uint64_t *state, const struct case_file *c)
     }
 }
 
-static void compare_small_cases(void)
-{
-    uint64_t state = 20240606;
-    static struct case_file c, twin;
-    for (int i = 0; i < SMALL_CASES; i++) {
-        make_small_case(&state, &c);
-        compare_case(&state, &c);
-        to_edition_2(&state, &c, &twin);
-        compare_case(&state, &twin);
-    }
-}
-
 static void print_agreement(void)
 {
-    printf("\nfloors: both programs agree in every answer\n  %llu floors in %llu answers; refusals by number:",
+    printf("\nfloors: both programs agree in every answer\n  %llu floors in %llu answers",
            (unsigned long long)written, (unsigned long long)answered);
-    for (uint32_t number = 1; number < SHAHFUREEL_LENGTH_MIN; number++)
-        if (refused[number] != 0)
-            printf(" %u: %llu", (unsigned)number, (unsigned long long)refused[number]);
-    printf("\n");
+    print_refusals(refused);
 }
 
 /* ---- times */
@@ -157,7 +143,7 @@ static double measure_dispatch(const struct group *g)
 void time_floors(int repetitions, const struct group *g)
 {
     static double controller[REPETITIONS_MAX], plain[REPETITIONS_MAX], ratio[REPETITIONS_MAX], of_dispatch[REPETITIONS_MAX];
-    compare_small_cases();
+    compare_small_cases(20240606, compare_case);
     make_lists(g);
     print_agreement();
     for (int i = 0; i < repetitions; i++) {

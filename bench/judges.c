@@ -2,6 +2,7 @@
  * output that is not permitted. It first compares the answers of both programs. */
 #include "judges.h"
 
+#include "agreement.h"
 #include "measure.h"
 #include "plain.h"
 
@@ -74,26 +75,11 @@ static void compare_case(uint64_t *state, const struct case_file *c)
     compare(c, outputs, units, random_between(state, 0, ANSWERS_ROOM));
 }
 
-static void compare_small_cases(void)
-{
-    uint64_t state = 20240604;
-    static struct case_file c, twin;
-    for (int i = 0; i < SMALL_CASES; i++) {
-        make_small_case(&state, &c);
-        compare_case(&state, &c);
-        to_edition_2(&state, &c, &twin);
-        compare_case(&state, &twin);
-    }
-}
-
 static void print_agreement(void)
 {
-    printf("\njudgements: both programs agree in every answer\n  accepted %llu, not accepted %llu; refusals by number:",
+    printf("\njudgements: both programs agree in every answer\n  accepted %llu, not accepted %llu",
            (unsigned long long)accepted, (unsigned long long)not_accepted);
-    for (uint32_t number = 1; number < SHAHFUREEL_LENGTH_MIN; number++)
-        if (refused[number] != 0)
-            printf(" %u: %llu", (unsigned)number, (unsigned long long)refused[number]);
-    printf("\n");
+    print_refusals(refused);
 }
 
 /* ---- times */
@@ -151,7 +137,7 @@ static void time_lists(int repetitions, const struct group *g, const char *what,
 
 void time_judges(int repetitions, const struct group *g)
 {
-    compare_small_cases();
+    compare_small_cases(20240604, compare_case);
     make_lists(g);
     print_agreement();
     time_lists(repetitions, g, "dispatch's own outputs", own);

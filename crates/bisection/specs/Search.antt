@@ -1,4 +1,4 @@
--- What the search holds: for every problem that the arrays of a site hold, the best allocation, the greatest floor and the number of the evaluations that the steps of rules 11.3 to 11.11 make.
+-- What the search holds: for every problem that the arrays of a site hold, the best allocation, the greatest floor and the number of the evaluations that the steps of rules 11.3 to 11.11 make; and a trace of these, each multiplier with its dual value (rule 20.3).
 use Prim.Native.Nat.{ℕ, _+_, _*_, _≤_}
 use mathlib.Core.Path.{_≡_}
 use mathlib.Core.Bool.{cond}

@@ -64,7 +64,7 @@ module _ {ends : List ℕ} {begin end : ℕ} (r : Regions ends begin end) where
 
 -- ---- beside the vertex, which region k reaches first
 
-module _ {ends : List ℕ} {begin end : ℕ} {c : code.Curve} {v k : ℕ} {twin : Bool} (b : Beside ends begin end c v twin) (q : Reaching ends begin end v k) where
+module _ {ends : List ℕ} {begin end : ℕ} {c : code.Curve} {v k : ℕ} {tied : Bool} (b : Beside ends begin end c v tied) (q : Reaching ends begin end v k) where
   abbrev r : Regions ends begin end
   r = b .running .regions
 
@@ -90,11 +90,11 @@ module _ {ends : List ℕ} {begin end : ℕ} {c : code.Curve} {v k : ℕ} {twin 
         by (yes l) = inl (omega arith)
         by (no l) = inr (omega arith)
 
-    pub alone : twin ≡ false → Chosen (height c) (Within ends begin end) v v
+    pub alone : tied ≡ false → Chosen (height c) (Within ends begin end) v v
     alone e = upper-only (b .valley) (from-lowest r) (to-highest r) (v - 1) v one-before (here (omega arith)) (omega arith) (omega arith) split (b .falls e)
 
-    pub twins : twin ≡ true → Chosen (height c) (Within ends begin end) v (v - 1)
-    twins e = both (b .valley) (from-lowest r) (to-highest r) (v - 1) v one-before (here (omega arith)) (omega arith) (omega arith) split (b .level e)
+    pub tied-pair : tied ≡ true → Chosen (height c) (Within ends begin end) v (v - 1)
+    tied-pair e = both (b .valley) (from-lowest r) (to-highest r) (v - 1) v one-before (here (omega arith)) (omega arith) (omega arith) split (b .level e)
 
   -- at the start of a region
   module _ (h : v ≤ low ends k) where

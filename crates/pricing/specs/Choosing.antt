@@ -34,13 +34,13 @@ pub record Running (ends : List ℕ) (first last : ℕ) (c : Curve) : Type 0 whe
   pub curve : InRange c
 
 -- with the vertex between them, and whether the step into it is level
-pub record Beside (ends : List ℕ) (first last : ℕ) (c : Curve) (v : ℕ) (twin : Bool) : Type 0 where
+pub record Beside (ends : List ℕ) (first last : ℕ) (c : Curve) (v : ℕ) (tied : Bool) : Type 0 where
   pub running : Running ends first last c
   pub from : low ends first ≤ v
   pub to : v ≤ high ends last
   pub valley : Valley (height c) (low ends first) (high ends last) v
-  pub level : twin ≡ true → height c v ≡ height c (v - 1)
-  pub falls : twin ≡ false → height c v <ℤ height c (v - 1)
+  pub level : tied ≡ true → height c v ≡ height c (v - 1)
+  pub falls : tied ≡ false → height c v <ℤ height c (v - 1)
 
 pub record Choosable (ends : List ℕ) (first last : ℕ) (c : Curve) : Type 0 where
   pub few : last < 192

@@ -63,7 +63,7 @@ fn region_reaching(ends: &[u16; 384], first: usize, last: usize, v: u16) -> usiz
     k
 }
 
-// The choice beside the vertex `v`, which lies from the lowest to the highest running output; `twin` if the output below `v`
+// The choice beside the vertex `v`, which lies from the lowest to the highest running output; `tied` if the output below `v`
 // costs the same.
 fn choose_beside(
     ends: &[u16; 384],
@@ -71,15 +71,15 @@ fn choose_beside(
     last: usize,
     c: Curve,
     v: u16,
-    twin: bool,
+    tied: bool,
 ) -> Choice
-    requires { ⌜ Beside (now ends) first last c v twin ⌝ }
+    requires { ⌜ Beside (now ends) first last c v tied ⌝ }
     ensures { λ r. ⌜ Chosen (height c) (Within (now (ends .entry)) first last) (r .greatest) (r .least) ⌝ }
 {
     let k = region_reaching(ends, first, last, v);
     let low = ends[2 * k];
     if low < v {
-        if twin {
+        if tied {
             return Choice {
                 greatest: v,
                 least: v - 1,

@@ -13,7 +13,7 @@ use Rattle.rules.specs.Lowering.{LoweringSaves, LowersInFileOrder, Lower
 use Rattle.rules.specs.declared.Verdict.{Verdict}
 use Rattle.rules.proofs.Lists.{Every}
 use Rattle.rules.proofs.Economics.Allocations.{Available, tied-given, choices-tied}
-use Rattle.rules.proofs.Economics.Lowering.{saves, in-file-order, slacker}
+use Rattle.rules.proofs.Economics.Lowering.{saves, in-file-order, more-slack}
 use Rattle.rules.proofs.Economics.Solvable.{solvable-available, case-proper}
 use Rattle.rules.proofs.Economics.Solution.{same-cost, same-net, same-target, covering-net, given-permitted}
 use Rattle.rules.proofs.Encoding.SoundFile.{units-sound}
@@ -31,7 +31,7 @@ pub lowers-in-order : LowersInFileOrder
 lowers-in-order file e = in-file-order (problemIn file) (available file e)
 
 pub lowers-further : LowersFurtherWithMoreToSpare
-lowers-further file e = slacker (problemIn file) (available file e)
+lowers-further file e = more-slack (problemIn file) (available file e)
 
 pub choices-not-cheaper : ChoicesNotCheaper dispatched
 choices-not-cheaper file reply e long m few h =

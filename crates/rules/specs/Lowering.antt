@@ -40,13 +40,13 @@ abbrev pub LowersInFileOrder : Type 0
 LowersInFileOrder = (file : List ℕ) → caseVerdict file ≡ Verdict.Accepted → (m : ℕ) → InFileOrder m (problemIn file)
 
 -- the same case with a smaller demand: where the greater one is covered so is the smaller one, with no more net and at no more cost
-pub record Slacker (m d : ℕ) (q : Problem) : Type 0 where
+pub record MoreSlack (m d : ℕ) (q : Problem) : Type 0 where
   pub covers : target q ≤ totalNet (unitsOf q) (selected m q) → target (record { demand = d; offers = q .offers }) ≤ totalNet (unitsOf q) (selected m (record { demand = d; offers = q .offers }))
   pub net : target q ≤ totalNet (unitsOf q) (selected m q) → totalNet (unitsOf q) (selected m (record { demand = d; offers = q .offers })) ≤ totalNet (unitsOf q) (selected m q)
   pub cost : target q ≤ totalNet (unitsOf q) (selected m q) → totalCost (unitsOf q) (selected m (record { demand = d; offers = q .offers })) ≤ totalCost (unitsOf q) (selected m q)
 
 abbrev pub LowersFurtherWithMoreToSpare : Type 0
-LowersFurtherWithMoreToSpare = (file : List ℕ) → caseVerdict file ≡ Verdict.Accepted → (m d : ℕ) → d ≤ problemIn file .demand → Slacker m d (problemIn file)
+LowersFurtherWithMoreToSpare = (file : List ℕ) → caseVerdict file ≡ Verdict.Accepted → (m d : ℕ) → d ≤ problemIn file .demand → MoreSlack m d (problemIn file)
 
 -- ---- (rule 16.18) no multiplier has choices, as they are before lowering, that cover and are cheaper than the reply
 

@@ -39,7 +39,7 @@ use Rattle.rules.proofs.Demand3.{case-accepted, demand3}
 use Rattle.rules.proofs.Replied.{replied}
 use Rattle.sensitivity.specs.declared.Floored.{Floored}
 use Rattle.sensitivity.specs.Floors.{dualFor, floorFor, floorsVerdict, floorsEnd, floored}
-use Rattle.sensitivity.specs.Claims.{OfThatDemand, Floors, Bounds, OwnDemand, RefusesAsDispatch}
+use Rattle.sensitivity.specs.Claims.{OfThatDemand, Floors, Bounds, OwnDemand, NotAboveDispatch, RefusesAsDispatch}
 use Rattle.sensitivity.proofs.Carried.{at, floor-for, dual-rises}
 use Rattle.sensitivity.proofs.Outcomes.{ended}
 use Rattle.sensitivity.proofs.Tracing.{seen}
@@ -92,6 +92,13 @@ module _ (file : List ℕ) (e : caseVerdict file ≡ Verdict.Accepted) where
   own-greatest : GreatestFloor q (floorFor q (q .demand))
   own-greatest = rw (of-that-demand q (q .demand)) (greatest-floor q (case-proper (caseOf file) sound) solves)
 
+  -- for another demand, at most the greatest floor of the same offers with it
+  floor-within : (d : ℕ) {z : ℤ} → GreatestFloor (at q d) z → floorFor q d ≤ℤ z
+  unfolding floorFor
+  floor-within d g =
+      let (m, k, top) = greatest-of (λ n. dividedUp (dualFor n q d) 100000) (seen file e .zero-seen) .one in
+      rw (← top, floor-for m q d) (g .greatest m (seen file e .within m k))
+
 -- there is one greatest floor
 one-greatest : (q : Problem) {y z : ℤ} → GreatestFloor q y → GreatestFloor q z → y ≡ z
 one-greatest q {y} {z} a b =
@@ -139,16 +146,27 @@ bounds file demands floors n e =
       },
     )
 
+-- what a reply claims is the greatest floor of its case
+reply-greatest : (file buffer : List ℕ) (k : ℕ) → dispatched file buffer .answer ≡ Dispatched.Replied k → GreatestFloor (problemIn file) (costLessGap (replyIn (dispatched file buffer .reply)))
+reply-greatest file buffer k r =
+    let d = replied file buffer k r in
+    demand3 file buffer (case-accepted file (d .accepted) .0) (d .room) .reply (λ f. absurd (let z : _≡_ {A = ℕ} 0 1 = differ (sym r ∙ f) in omega arith)) .greatestFloor
+  where
+    differ : Dispatched.Replied k ≡ Dispatched.Refused NoAllocation → _≡_ {A = ℕ} 0 1
+    differ g = cc
+
 pub own-demand : OwnDemand floored
 unfolding problemOf
 own-demand file demands buffer floors n k i e r h own =
     let w = wrote file demands floors n e in
-    let d = replied file buffer k r in
-    let p = demand3 file buffer (case-accepted file (d .accepted) .0) (d .room) .reply (λ f. absurd (let z : _≡_ {A = ℕ} 0 1 = differ (sym r ∙ f) in omega arith)) in
-    floor-at w i h ∙ ap (floorFor (problemIn file)) own ∙ one-greatest (problemIn file) (own-greatest file (w .accepted)) (p .greatestFloor)
-  where
-    differ : Dispatched.Replied k ≡ Dispatched.Refused NoAllocation → _≡_ {A = ℕ} 0 1
-    differ g = cc
+    floor-at w i h ∙ ap (floorFor (problemIn file)) own ∙ one-greatest (problemIn file) (own-greatest file (w .accepted)) (reply-greatest file buffer k r)
+
+pub not-above-dispatch : NotAboveDispatch floored
+unfolding problemOf
+not-above-dispatch file demands other buffer floors n k i e r h same =
+    let w = wrote file demands floors n e in
+    let g : GreatestFloor (problemOf (record { demand = getD demands i 0; units = caseOf file .units })) _ = subst (λ c. GreatestFloor (problemOf c) (costLessGap (replyIn (dispatched other buffer .reply)))) same (reply-greatest other buffer k r) in
+    rw (floor-at w i h) (floor-within file (w .accepted) (getD demands i 0) g)
 
 -- ---- of a call that is refused
 

@@ -50,6 +50,16 @@ OwnDemand call =
     → getD demands i 0 ≡ caseOf file .demand
     → getD (call file demands floors .floors) i (pos 0) ≡ costLessGap (replyIn (dispatched file buffer .reply))
 
+-- (rule 20.6) the floor for another demand is at most cost less gap of the reply to a file with that demand and the same units
+abbrev pub NotAboveDispatch : (List ℕ → List ℕ → List ℤ → FloorsResult) → Type 0
+NotAboveDispatch call =
+    (file demands other buffer : List ℕ) (floors : List ℤ) (n k i : ℕ)
+    → call file demands floors .answer ≡ Floored.Written n
+    → dispatched other buffer .answer ≡ Dispatched.Replied k
+    → i < length demands
+    → caseOf other ≡ record { demand = getD demands i 0; units = caseOf file .units }
+    → getD (call file demands floors .floors) i (pos 0) ≤ℤ costLessGap (replyIn (dispatched other buffer .reply))
+
 -- (rule 20.2) where the demands are valid and there is room, it refuses what dispatch refuses, with the same number
 abbrev pub RefusesAsDispatch : (List ℕ → List ℕ → List ℤ → FloorsResult) → Type 0
 RefusesAsDispatch call =

@@ -11,7 +11,7 @@ use borrow.Author.Tests.{leb-true, leb-false, le-leb, lt-leb}
 use Rattle.rules.specs.Unit.{Unit, cost, net}
 use Rattle.rules.specs.Problem.{totalCost, totalNet, Offer, Problem, unitsOf, target}
 use Rattle.rules.specs.Choice.{choice, leastTied, choices, lowered, selected}
-use Rattle.rules.specs.Lowering.{Saves, InFileOrder, Slacker}
+use Rattle.rules.specs.Lowering.{Saves, InFileOrder, MoreSlack}
 use Rattle.fields.proofs.Integers.{ints}
 use Rattle.rules.proofs.Lists.{Every}
 use Rattle.rules.proofs.Verdicts.{either-way}
@@ -202,8 +202,8 @@ module _ (q : Problem) (g : Every Available (q .offers)) (m d : ℕ) (less : d �
       let looser = selected-lowered q′ g m (omega (arith, same-net)) in
       rw (selected-lowered q g m c, looser, same-net) (lowered-monotone m (target q) v (target q′) v (q .offers) g c (omega arith) (omega (arith, chosen-net)) (omega (arith, chosen-net)))
 
-  pub slacker : Slacker m d q
-  slacker =
+  pub more-slack : MoreSlack m d q
+  more-slack =
       record {
         covers = λ h. still-covers q′ g m (omega (arith, same-net, net-at-most q g m));
         net = no-more-net;

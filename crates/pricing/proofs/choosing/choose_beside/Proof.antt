@@ -1,7 +1,7 @@
 -- `pricing::choosing::choose_beside` meets its contract: the vertex lies in the region that reaches it first, behind that region's start, or at the start or before it (`Regions`).
 use native.Mathlib.Omega.{arith}
 use Prim.Native.Nat.{_-_}
-use Rattle.pricing.proofs.Regions.{alone, twins, lowest-only, behind-first, before-small, behind-small, between-regions}
+use Rattle.pricing.proofs.Regions.{alone, tied-pair, lowest-only, behind-first, before-small, behind-small, between-regions}
 use borrow.Author.Needs.{needs}
 use Rattle.pricing.proofs.choosing.choose_beside.Statement.{statement}
 use Rattle.pricing.proofs.choosing.choose_beside.Tie as tie
@@ -27,7 +27,7 @@ sub-t16 : tie.Need-sub-t16
 sub-t16 c = search needs
 
 returns : tie.Need-returns
-returns c = let h = c .before in let s = h .before in twins (entry s .pre) (s .before .region-reaching .ensures) (h .if1 .taken) (c .if2 .taken)
+returns c = let h = c .before in let s = h .before in tied-pair (entry s .pre) (s .before .region-reaching .ensures) (h .if1 .taken) (c .if2 .taken)
 
 only-requires : tie.Need-only-requires
 only-requires c κs = search needs
