@@ -19,14 +19,21 @@ fn wide(x: u16) -> u64
     x as u64
 }
 
+// Two outputs that tie.
+fn both(below: u16, above: u16) -> Choice
+    ensures { λ r. ⌜ (r .greatest ≡ above) × (r .least ≡ below) ⌝ }
+{
+    Choice {
+        greatest: wide(above),
+        least: wide(below),
+    }
+}
+
 // One output that ties with no other.
 fn only(p: u16) -> Choice
     ensures { λ r. ⌜ (r .greatest ≡ p) × (r .least ≡ p) ⌝ }
 {
-    Choice {
-        greatest: p,
-        least: p,
-    }
+    both(p, p)
 }
 
 // The better of two outputs, or both.
@@ -42,10 +49,7 @@ fn better(c: Curve, below: u16, above: u16) -> Choice
     if y < x {
         return only(above);
     }
-    Choice {
-        greatest: above,
-        least: below,
-    }
+    both(below, above)
 }
 
 // The first of the regions `first`..=`last` whose high reaches `v`, or the last.
@@ -80,10 +84,7 @@ fn choose_beside(
     let low = ends[2 * k];
     if low < v {
         if tied {
-            return Choice {
-                greatest: v,
-                least: v - 1,
-            };
+            return both(v - 1, v);
         }
         return only(v);
     }
@@ -110,10 +111,7 @@ fn choose_running(ends: &[u16; 384], first: usize, last: usize, c: Curve) -> Cho
         return only(lowest);
     }
     if by == 0 {
-        return Choice {
-            greatest: highest,
-            least: lowest,
-        };
+        return both(lowest, highest);
     }
     let twice = by as i64;
     choose_beside(
@@ -150,15 +148,14 @@ pub fn choose(ends: &[u16; 384], first: usize, last: usize, c: Curve) -> Choice
     if from == first {
         return running;
     }
-    let priced = priced_cost(c, running.greatest);
+    let Choice { greatest, .. } = running;
+    let p = greatest as u16;
+    let priced = priced_cost(c, p);
     if priced > 0 {
         return only(0);
     }
     if priced == 0 {
-        return Choice {
-            greatest: running.greatest,
-            least: 0,
-        };
+        return both(0, p);
     }
     running
 }

@@ -22,10 +22,11 @@ pub struct Curve {
     pub constant: u64,
 }
 
-// A unit's outputs of least priced cost: the greatest, which is its choice, and the least, to which it may be lowered.
+// A unit's outputs of least priced cost: the greatest, which is its choice, and the least, to which it may be lowered. (In 64 bits,
+// so that each stays in a register: two of 16 were packed into one and unpacked again for every unit, a tenth of a dispatch.)
 pub struct Choice {
-    pub greatest: u16,
-    pub least: u16,
+    pub greatest: u64,
+    pub least: u64,
 }
 
 // Cost and net of outputs together.

@@ -7,6 +7,7 @@ ghost use Rattle.rules.specs.Lists.{greatest};
 ghost use Rattle.rules.specs.Numbers.{dividedUp};
 ghost use Rattle.fields.proofs.Integers.{Is};
 ghost use Rattle.pricing.specs.Totals.{Held, Evaluable, Evaluates, Allocates, Dualable};
+use crate::Choice;
 use crate::Evaluated;
 use crate::Sums;
 use crate::choosing::choose;
@@ -34,12 +35,11 @@ pub fn evaluate(
     while i < n {
         let first = ranges[2 * i] as usize;
         let last = ranges[2 * i + 1] as usize;
-        let c = choose(ends, first, last, curve_of(coefficients, i, m));
-        let p = c.greatest;
-        let l = c.least;
+        let Choice { greatest, least: l } = choose(ends, first, last, curve_of(coefficients, i, m));
+        let p = greatest as u16;
         outputs[i] = p;
-        least[i] = l;
-        spread += (p - l) as u64;
+        least[i] = l as u16;
+        spread += greatest - l;
         cost += cost_of(coefficients, i, p);
         net += net_of(coefficients, i, p);
         i += 1;

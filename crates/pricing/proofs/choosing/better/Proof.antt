@@ -50,14 +50,18 @@ returns-2 c =
     let b = prefers-upper (height (a .c)) (a .below) (a .above) (under (itself _) (itself _) (when-lt (is-same (above-read d) (itself _)) (is-same (below-read d) (itself _)) (t .if2 .taken))) in
     rw (c .only2 .ensures .0, c .only2 .ensures .1) (sym (b .0), sym (b .1))
 
+both-requires : tie.Need-both-requires
+both-requires c κs = search needs
+
 returns-3 : tie.Need-returns-3
 returns-3 c =
-    let d = c .before .before in
+    let t = c .before in
+    let d = t .before .before in
     let a = entry d .args in
-    let k = when-ge (is-same (below-read d) (itself _)) (is-same (above-read d) (itself _)) (c .before .if1 .left) in
-    let h = when-ge (is-same (above-read d) (itself _)) (is-same (below-read d) (itself _)) (c .if2 .left) in
+    let k = when-ge (is-same (below-read d) (itself _)) (is-same (above-read d) (itself _)) (t .before .if1 .left) in
+    let h = when-ge (is-same (above-read d) (itself _)) (is-same (below-read d) (itself _)) (t .if2 .left) in
     let b = prefers-both (height (a .c)) (a .below) (a .above) (same (itself _) (itself _) (omega arith)) in
-    (sym (b .0), sym (b .1))
+    rw (c .both .ensures .0, c .both .ensures .1) (sym (b .0), sym (b .1))
 
 pub better-spec : {M : Type 1} → statement M
-better-spec = tie.close (tie.spec priced-cost-requires priced-cost-requires-2 only-requires returns only-requires-2 returns-2 returns-3)
+better-spec = tie.close (tie.spec priced-cost-requires priced-cost-requires-2 only-requires returns only-requires-2 returns-2 both-requires returns-3)

@@ -97,6 +97,9 @@ module _ (c : tie.Else2) where
   standing-is : Is (pricedAt (s .args .c) 0) 0 0
   standing-is = is-same (priced-standing (s .args .c)) (is-pos 0)
 
+cast-p : tie.Need-cast-p
+cast-p c = omega (arith, output c)
+
 priced-cost-requires : tie.Need-priced-cost-requires
 priced-cost-requires c κs = (s c .pre .curve, output c)
 
@@ -119,12 +122,16 @@ returns-3 c =
     (stands-better (s e .pre) (stands e) (more e) (chosen e)
     (under (standing-is e) (itself (pricedAt (s e .args .c) (p e))) (when-lt (is-pos 0) (is-same (running-read h) (itself _)) (d .if3 .taken))))
 
+both-requires : tie.Need-both-requires
+both-requires c κs = search needs
+
 returns-4 : tie.Need-returns-4
 returns-4 c =
-    let h = c .before .before in
+    let h = c .before .before .before in
     let e = h .before in
-    let zero = zero-bits (h .priced-cost .result) (c .if4 .taken) in
-    stands-or-runs (s e .pre) (stands e) (more e) (chosen e) (same (is-same (sym (running-read h)) zero) (standing-is e) (omega arith))
+    let zero = zero-bits (h .priced-cost .result) (c .before .if4 .taken) in
+    rw (c .both .ensures .0, c .both .ensures .1)
+    (stands-or-runs (s e .pre) (stands e) (more e) (chosen e) (same (is-same (sym (running-read h)) zero) (standing-is e) (omega arith)))
 
 returns-5 : tie.Need-returns-5
 returns-5 c =
@@ -144,8 +151,10 @@ choose-spec =
     returns
     choose-running-requires
     returns-2
+    cast-p
     priced-cost-requires
     only-requires-2
     returns-3
+    both-requires
     returns-4
     returns-5)

@@ -23,11 +23,17 @@ element-copy-out-low c = search needs
 
 -- ---- behind the region's start
 
-sub-t16 : tie.Need-sub-t16
-sub-t16 c = search needs
+sub-both : tie.Need-sub-both
+sub-both c = search needs
+
+both-requires : tie.Need-both-requires
+both-requires c κs = search needs
 
 returns : tie.Need-returns
-returns c = let h = c .before in let s = h .before in tied-pair (entry s .pre) (s .before .region-reaching .ensures) (h .if1 .taken) (c .if2 .taken)
+returns c =
+    let h = c .before .before in
+    let s = h .before in
+    rw (c .both .ensures .0, c .both .ensures .1) (tied-pair (entry s .pre) (s .before .region-reaching .ensures) (h .if1 .taken) (c .before .if2 .taken))
 
 only-requires : tie.Need-only-requires
 only-requires c κs = search needs
@@ -85,7 +91,8 @@ choose-beside-spec =
     mul-low
     mul-low-2
     element-copy-out-low
-    sub-t16
+    sub-both
+    both-requires
     returns
     only-requires
     returns-2

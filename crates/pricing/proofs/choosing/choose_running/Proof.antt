@@ -159,11 +159,15 @@ module _ (c : tie.Else2) where
   not-less : s b ≤ a b + t b
   not-less = omega (arith, above-lowest)
 
+both-requires : tie.Need-both-requires
+both-requires c κs = search needs
+
 returns-3 : tie.Need-returns-3
 returns-3 c =
-    let d = c .before in
-    let none : a (b d) ≡ 0 = omega (arith, c .if3 .taken) in
-    all-tied (b d .pre) none (omega (arith, below-highest d, above-lowest d, ap (λ (n : ℕ). n * highest-is (b d)) none, ap (λ (n : ℕ). n * lowest-is (b d)) none))
+    let d = c .before .before in
+    let none : a (b d) ≡ 0 = omega (arith, c .before .if3 .taken) in
+    rw (c .both .ensures .0, c .both .ensures .1)
+    (all-tied (b d .pre) none (omega (arith, below-highest d, above-lowest d, ap (λ (n : ℕ). n * highest-is (b d)) none, ap (λ (n : ℕ). n * lowest-is (b d)) none)))
 
 module _ (c : tie.Else3) where
   abbrev d : tie.Else2
@@ -271,6 +275,7 @@ choose-running-spec =
     cast-if2
     only-requires-2
     returns-2
+    both-requires
     returns-3
     cast-twice
     div-choose-beside

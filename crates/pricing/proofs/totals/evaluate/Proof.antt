@@ -100,11 +100,17 @@ module _ (c : tie.After-choose Inv-loop μ-loop) where
   picked-least : (q : Problem) → HoldsProblem (now (s t .args .coefficients)) (now (s t .args .ends)) (now (s t .args .ranges)) (s t .args .n) q → l ≡ leastTied (s t .args .m) (getD (q .offers) (i t) noOffer)
   picked-least q h = both q h .1
 
+cast-p : tie.Need-cast-p Inv-loop μ-loop
+cast-p c = omega (arith, output c)
+
 mul-outputs : tie.Need-mul-outputs Inv-loop μ-loop
 mul-outputs c = omega (arith, few (t c))
 
 slice-write-outputs : tie.Need-slice-write-outputs Inv-loop μ-loop
 slice-write-outputs c = omega (arith, t c .before .loop .inv .1 .room, t c .loop-test .taken)
+
+cast-least : tie.Need-cast-least Inv-loop μ-loop
+cast-least c = omega (arith, below c, output c)
 
 mul-least : tie.Need-mul-least Inv-loop μ-loop
 mul-least c = omega (arith, few (t c))
@@ -113,10 +119,7 @@ slice-write-least : tie.Need-slice-write-least Inv-loop μ-loop
 slice-write-least c = omega (arith, t c .before .loop .inv .3 .room, t c .loop-test .taken)
 
 sub-spread : tie.Need-sub-spread Inv-loop μ-loop
-sub-spread c = below c
-
-cast-spread : tie.Need-cast-spread Inv-loop μ-loop
-cast-spread c = omega (arith, output c)
+sub-spread c = omega (arith, below c)
 
 add-spread : tie.Need-add-spread Inv-loop μ-loop
 add-spread c = omega (arith, t c .before .loop .inv .4 .small, output c, few (t c))
@@ -189,12 +192,13 @@ evaluate-spec =
     cast-last
     curve-of-requires
     choose-requires
+    cast-p
     mul-outputs
     slice-write-outputs
+    cast-least
     mul-least
     slice-write-least
     sub-spread
-    cast-spread
     add-spread
     cost-of-requires
     add-cost
