@@ -1,8 +1,7 @@
-pub mod ReplyWritten
 pub mod Lowered
 pub mod Selecting
 pub mod Tracing
 pub mod Halving
 pub mod Searching
-pub mod Stating
-pub mod Endings
+pub mod AboveFloor
+pub mod Starting

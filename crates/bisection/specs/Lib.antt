@@ -1,4 +1,3 @@
-pub mod ReplyHeld
 pub mod Lowering
 pub mod Search
-pub mod Solved
+pub mod Solving

@@ -1,12 +1,21 @@
-// The dual bisection (section 11 of docs/SPECIFICATION.md), the reply, and dispatch from a case file's bytes to the reply's.
-mod dispatching;
+// The dual bisection (section 11 of docs/SPECIFICATION.md) over a decoded site: what it finds, and what it evaluates on the way.
+ghost use mathlib.Core.Path.{_≡_};
+ghost use lib.IntN.{pos, _-ℤ_};
+ghost use Rattle.rules.specs.Numbers.{natural};
+ghost use Rattle.bisection.specs.Solving.{Measurable};
+
 mod lowering;
-mod reply;
 mod steps;
 
-pub use dispatching::dispatch;
-pub use dispatching::distance;
 pub use steps::Allocation;
 pub use steps::Found;
 pub use steps::greater;
 pub use steps::search;
+
+// How far a cost lies above a floor.
+pub fn distance(cost: u64, floor: i64) -> u64
+    requires { ⌜ Measurable cost floor ⌝ }
+    ensures { λ r. ⌜ r ≡ natural (pos cost -ℤ floor) ⌝ }
+{
+    (cost as i64 - floor) as u64
+}

@@ -48,7 +48,7 @@ fn answer(file: &[u8], out: &mut [u8]) -> usize
     ensures { λ r. ⌜ (r ≡ length (printed (now (file .entry)))) × (now (out .exit) ≡ over (printed (now (file .entry))) (now (out .entry))) ⌝ }
 {
     let mut reply = [0u8; 92];
-    let answered = bisection::dispatch(file, &mut reply);
+    let answered = dispatching::dispatch(file, &mut reply);
     text::write_text(out, answered, &reply)
 }
 

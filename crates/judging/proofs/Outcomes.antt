@@ -15,8 +15,8 @@ use Rattle.pricing.proofs.Offers.{held-proper}
 use Rattle.bisection.specs.declared.steps.Allocation as code-allocation
 use Rattle.bisection.specs.declared.steps.Found as code-found
 use Rattle.bisection.specs.Search.{Holding, Searches}
-use Rattle.bisection.specs.Solved.{Measurable, Solving}
-use Rattle.bisection.proofs.Endings.{holding, greatest-held}
+use Rattle.bisection.specs.Solving.{Measurable, Solving}
+use Rattle.bisection.proofs.Starting.{holding, greatest-held}
 use Rattle.pricing.specs.Step1.{First}
 use Rattle.judging.specs.declared.Judged.{Judged}
 use Rattle.judging.specs.Held.{SumHeld, JudgedOf, JudgedHeld}

@@ -6,7 +6,7 @@ ghost use mathlib.Core.Bool.{_&&_};
 ghost use Prim.Native.Nat.{_<_};
 ghost use lib.Dec.{leb};
 ghost use lib.ListN.{length};
-ghost use Rattle.bisection.specs.Solved.{Solving};
+ghost use Rattle.bisection.specs.Solving.{Solving};
 ghost use Rattle.judging.specs.Judging.{judged};
 ghost use Rattle.judging.specs.Held.{LiesTold, Summable, SumTold, JudgedHeld};
 use bisection::Allocation;
@@ -76,8 +76,8 @@ fn sum_outputs(
         if !lies_within(ends, first, last, p) {
             return Summed::NotPermitted;
         }
-        cost += pricing::cost_of(coefficients, i, p as u16);
-        net += pricing::net_of(coefficients, i, p as u16);
+        cost += choice::cost_of(coefficients, i, p as u16);
+        net += choice::net_of(coefficients, i, p as u16);
         i += 1;
     }
     Summed::Permitted { cost, net }

@@ -23,7 +23,7 @@ use sensitivity::Floored;
 pub extern "C" fn shahfureel_dispatch(file: &[u8], reply: &mut [u8]) -> u32
     ensures { λ n. ⌜ panelDispatched (now (file .entry)) (now (reply .entry)) ≡ record { number = n; reply = now (reply .exit) } ⌝ }
 {
-    let answer = bisection::dispatch(file, reply);
+    let answer = dispatching::dispatch(file, reply);
     match answer {
         Dispatched::Replied(length) => length as u32,
         Dispatched::Refused(r) => rules::number(r),

@@ -1,7 +1,3 @@
-pub mod Heights
-pub mod Valley
-pub mod Regions
-pub mod Signed
 pub mod Floor
 pub mod Offers
 pub mod Allocating

@@ -13,13 +13,13 @@ use Rattle.fields.proofs.Integers.{Is, same}
 use Rattle.rules.proofs.Economics.Chosen.{Chosen, Among, some-among, unique, alike, agreed, scanned}
 use Rattle.rules.proofs.Economics.Allocations.{Proper, Available, dual-is, at-most-greatest}
 use Rattle.site.specs.Site.{first, last, low, high, Within, noOffer, HoldsOffer, HoldsProblem}
-use Rattle.pricing.specs.declared.Curve as code
-use Rattle.pricing.specs.Curve.{pricedAt, IsCurve, InRange}
-use Rattle.pricing.specs.Choosing.{Choosable}
+use Rattle.choice.specs.declared.Curve as code
+use Rattle.choice.specs.Curve.{pricedAt, IsCurve, InRange}
+use Rattle.choice.specs.Choosing.{Choosable}
 use Rattle.pricing.specs.declared.Sums as code-sums
 use Rattle.pricing.specs.Totals.{Allocates}
-use Rattle.pricing.proofs.Heights.{priced-curve}
-use Rattle.pricing.proofs.Regions.{small, to-highest, lowest, highest}
+use Rattle.choice.proofs.Heights.{priced-curve}
+use Rattle.choice.proofs.Regions.{small, to-highest, lowest, highest}
 
 greatest-at-most : (x : ℕ) (ps : List ℕ) → ((p : ℕ) → Among p ps → p ≤ x) → greatest ps ≤ x
 greatest-at-most x [] h = omega arith

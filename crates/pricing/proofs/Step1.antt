@@ -24,7 +24,7 @@ use Rattle.site.specs.Site.{noOffer, HoldsOffer, HoldsProblem, Site}
 use Rattle.pricing.specs.declared.Sums as code
 use Rattle.pricing.specs.Totals.{Allocates, Dualable}
 use Rattle.pricing.specs.Step1.{First}
-use Rattle.pricing.proofs.Regions.{lowest}
+use Rattle.choice.proofs.Regions.{lowest}
 use Rattle.pricing.proofs.Offers.{dual-held}
 
 -- ---- the verdict on the case

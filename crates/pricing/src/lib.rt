@@ -1,10 +1,7 @@
-// All arithmetic of the controller over a decoded site (crate `site`): a unit's choice at a multiplier, the choices of all units
-// with their sums, the dual value and its floor; and step 1 and the pricing call on a file's bytes. Each number is in range on 64
-// bits and equal to what crate `rules` defines.
-mod choosing;
+// All units of a decoded site (crate `site`) together: their choices (crate `choice`) with the sums, the dual value and its floor; and
+// step 1 and the pricing call on a file's bytes. Each number is in range on 64 bits and equal to what crate `rules` defines.
 mod files;
 mod totals;
-mod units;
 
 pub use files::first_best;
 pub use files::price;
@@ -12,22 +9,6 @@ use rules::Refusal;
 pub use totals::dual_of;
 pub use totals::evaluate;
 pub use totals::floor_of;
-pub use units::cost_of;
-pub use units::net_of;
-
-// A unit's priced cost at a multiplier: square × p × p + linear × p + constant at a running output p.
-pub struct Curve {
-    pub square: u64,
-    pub linear: i64,
-    pub constant: u64,
-}
-
-// A unit's outputs of least priced cost: the greatest, which is its choice, and the least, to which it may be lowered. (In 64 bits,
-// so that each stays in a register: two of 16 were packed into one and unpacked again for every unit, a tenth of a dispatch.)
-pub struct Choice {
-    pub greatest: u64,
-    pub least: u64,
-}
 
 // Cost and net of outputs together.
 pub struct Sums {

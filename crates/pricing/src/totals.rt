@@ -7,13 +7,13 @@ ghost use Rattle.rules.specs.Lists.{greatest};
 ghost use Rattle.rules.specs.Numbers.{dividedUp};
 ghost use Rattle.fields.proofs.Integers.{Is};
 ghost use Rattle.pricing.specs.Totals.{Held, Evaluable, Evaluates, Allocates, Dualable};
-use crate::Choice;
 use crate::Evaluated;
 use crate::Sums;
-use crate::choosing::choose;
-use crate::units::cost_of;
-use crate::units::curve_of;
-use crate::units::net_of;
+use choice::Choice;
+use choice::choose;
+use choice::cost_of;
+use choice::curve_of;
+use choice::net_of;
 
 // The choices of the first `n` units at multiplier `m`, written into `outputs`, and their least tied outputs, into `least`.
 pub fn evaluate(

@@ -117,7 +117,7 @@ fn refused_bytes(r: Refusal, bytes: &[u8]) -> u32 {
 fn dispatch(file: &[u8], room: usize, bytes: &mut [u8]) -> u32 {
     let lent = least(room, bytes.len());
     fill_bytes(bytes);
-    let answer = bisection::dispatch(file, &mut bytes[..lent]);
+    let answer = dispatching::dispatch(file, &mut bytes[..lent]);
     match answer {
         Dispatched::Refused(r) => refused_bytes(r, bytes),
         Dispatched::Replied(length) => {

@@ -27,7 +27,7 @@ use Rattle.rules.proofs.Replied.{few-units}
 use Rattle.pricing.specs.Step1.{First}
 use Rattle.bisection.specs.declared.steps.Found as code-found
 use Rattle.bisection.specs.Search.{Holding, multiplierAt, dualAt, Traces, Searches}
-use Rattle.bisection.proofs.Endings.{holding, greatest-held}
+use Rattle.bisection.proofs.Starting.{holding, greatest-held}
 use Rattle.sensitivity.specs.Held.{PairInRange, Traced}
 
 -- a pair of the trace is a multiplier of the list with its dual value

@@ -5,7 +5,7 @@ use denote.Ref.{now}
 use borrow.Author.Needs.{needs}
 use Rattle.pricing.specs.Step1.{First, FindsFirst}
 use Rattle.rules.specs.Layout.{caseOf}
-use Rattle.bisection.proofs.Endings.{solving}
+use Rattle.bisection.proofs.Starting.{solving}
 use Rattle.judging.proofs.Outcomes.{units-counted, held}
 use Rattle.judging.proofs.Judgements.{judged-refused, judged-count, judged-held}
 use Rattle.judging.proofs.judge.Statement.{statement}

@@ -9,7 +9,7 @@ use Rattle.rules.specs.Choice.{choice, leastTied}
 use Rattle.rules.proofs.Economics.Quantities.{cost-range}
 use Rattle.site.specs.Site.{noOffer, HoldsOffer, HoldsProblem}
 use Rattle.pricing.specs.Totals.{Held, Sized}
-use Rattle.pricing.proofs.Regions.{small}
+use Rattle.choice.proofs.Regions.{small}
 use Rattle.pricing.proofs.Offers.{choosable, choice-held}
 use Rattle.pricing.proofs.Allocating.{Allocating, allocating-starts, offered, sized-more, allocating-more, allocating-ends, Filling, filling-starts, filling-more, filling-ends, Spread, spread-starts, spread-more}
 use Rattle.pricing.proofs.totals.evaluate.Statement.{statement}

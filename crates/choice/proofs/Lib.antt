@@ -1,0 +1,4 @@
+pub mod Heights
+pub mod Valley
+pub mod Regions
+pub mod Signed

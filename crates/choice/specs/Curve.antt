@@ -1,0 +1,46 @@
+-- A unit's priced cost at a multiplier, on running outputs, as a curve, square × p² + linear × p + constant. Of the definitions this alone says which coefficients it is made of.
+use Prim.Native.Nat.{ℕ, _+_, _*_, _≤_, _<_}
+use mathlib.Core.Path.{_≡_}
+use mathlib.Core.Bool.{cond}
+use mathlib.Core.List.{List}
+use lib.Dec.{eqb}
+use lib.IntN.{ℤ, pos, subℕ}
+use Rattle.rules.specs.Unit.{Unit, linearFactor}
+use Rattle.fields.proofs.Integers.{up, dn, Is}
+use Rattle.site.specs.Site.{Coefficients}
+use Rattle.choice.specs.declared.Curve.{Curve}
+
+-- the curve's value at p
+unfoldable pub height : Curve → ℕ → ℤ
+height c p = subℕ (c .square * (p * p) + up (c .linear) * p + c .constant) (dn (c .linear) * p)
+
+-- a unit's priced cost by its curve: the curve's value at a running output, nothing where it stands (rule 6.2)
+unfoldable pub pricedAt : Curve → ℕ → ℤ
+pricedAt c p = cond (eqb p 0) (pos 0) (height c p)
+
+-- the curve of unit u at m: 100,000 × cost − m × net of a running output, by powers of p
+pub record IsCurve (m : ℕ) (u : Unit) (c : Curve) : Type 0 where
+  pub square : c .square ≡ 100000 * u .c2 + m * u .b
+  pub linear : Is (c .linear) (100000 * u .c1) (linearFactor u * m)
+  pub constant : c .constant ≡ 100000 * u .c0
+
+-- its numbers in range
+pub record InRange (c : Curve) : Type 0 where
+  pub square : c .square ≤ 1000000000
+  pub above : up (c .linear) ≤ 10000000000000
+  pub below : dn (c .linear) ≤ 10000000000000
+  pub constant : c .constant ≤ 1000000000000000
+
+-- ---- unit i of the arrays, which is some unit's, at an output and at a multiplier
+
+pub record AtOutput (coefficients : List ℕ) (i p : ℕ) : Type 0 where
+  pub few : i < 32
+  pub output : p ≤ 10000
+  pub unit : Unit
+  pub holds : Coefficients coefficients i unit
+
+pub record AtMultiplier (coefficients : List ℕ) (i m : ℕ) : Type 0 where
+  pub few : i < 32
+  pub multiplier : m ≤ 65536
+  pub unit : Unit
+  pub holds : Coefficients coefficients i unit

@@ -1,0 +1,76 @@
+-- Dispatch by where it ends: each way out of the code is one case of the definition, and so carries demand 3.
+use Prim.Native.Nat.{ℕ, _≤_, _<_}
+use native.Mathlib.Omega.{arith}
+use mathlib.Core.Path.{_≡_, subst}
+use mathlib.Core.List.{List}
+use lib.IntN.{ℤ}
+use lib.ListN.{length}
+use borrow.Author.Tests.{lt-ltb, le-ltb}
+use Rattle.rules.specs.Lists.{over}
+use Rattle.rules.specs.Refusal.{fileVerdict}
+use Rattle.rules.specs.Problem.{problemIn}
+use Rattle.rules.specs.Bisection.{found, solve}
+use Rattle.rules.specs.Calls.{DispatchResult, replyBytes, caseVerdict, dispatchVerdict, dispatchEnds, dispatched}
+use Rattle.rules.specs.Promise.{Promise}
+use Rattle.rules.specs.declared.Refusal.{Refusal}
+use Rattle.rules.specs.declared.Refusal.the-variants.{BufferTooShort}
+use Rattle.rules.specs.declared.Verdict.{Verdict}
+use Rattle.rules.specs.declared.Dispatched.{Dispatched}
+use Rattle.rules.proofs.Economics.Solution.{best-covers, floor-at-most-cost, greatest-floor-not-negative}
+use Rattle.rules.proofs.Demand3.{demand3}
+use Rattle.pricing.specs.Step1.{First}
+use Rattle.pricing.proofs.Offers.{held-proper}
+use Rattle.bisection.specs.declared.steps.Allocation as code-allocation
+use Rattle.bisection.specs.declared.steps.Found as code-found
+use Rattle.bisection.specs.Search.{Holding, Searches}
+use Rattle.bisection.specs.Solving.{Solving}
+use Rattle.bisection.proofs.Starting.{holding, greatest-held}
+use Rattle.dispatching.specs.declared.reply.Reply as code-reply
+use Rattle.dispatching.specs.ReplyHeld.{replyHeld}
+use Rattle.dispatching.specs.Solved.{Stateable, States, Solves}
+
+-- what the search found can be stated
+pub stateable : {coefficients ends ranges : List ℕ} {n t : ℕ} {first : code-allocation.Allocation} (s : Solving coefficients ends ranges n t first) {f : code-found.Found} {trace : List ℤ} → Searches (Holding coefficients ends ranges n t) n first f trace → Stateable t f
+stateable {t = t} s {f} {trace} h =
+    let q = s .problem in
+    let p = s .holds .problem in
+    let found = h .held q (s .holds) (s .greatest) .found in
+    let proper = held-proper p in
+    record {
+      covers = omega (arith, best-covers q proper (s .solves), found .best .net, s .holds .demanded);
+      measurable =
+          record {
+            range = omega (arith, h .sized .cost, p .few);
+            above = rw (found .floor, found .best .cost) (floor-at-most-cost q proper (s .solves));
+            positive = rw (found .floor) (greatest-floor-not-negative q proper (s .solves));
+          };
+    }
+
+-- and what is stated is the rules' solution
+pub solved : {coefficients ends ranges : List ℕ} {n t : ℕ} {first : code-allocation.Allocation} {f : code-found.Found} {r : code-reply.Reply} {trace : List ℤ} → States t f r → Searches (Holding coefficients ends ranges n t) n first f trace → Solves coefficients ends ranges n t first r
+unfolding solve
+solved {r = r} s h = record { held = λ q i g. subst (λ (k : ℕ). replyHeld k r ≡ solve q) (i .problem .count) (s .held q (i .demanded) (found q) (h .held q i g .found)) }
+
+-- the solution of what step 1 found is the file's
+pub solution : {file coefficients ends ranges outputs : List ℕ} {n t c w : ℕ} → First file coefficients ends ranges outputs n t c w → {r : code-reply.Reply} → Solves coefficients ends ranges n t (record { outputs = outputs; cost = c; net = w }) r → replyHeld n r ≡ solve (problemIn file)
+solution {file} f s = s .held (problemIn file) (holding f) (greatest-held f)
+
+-- ---- outcome and promise
+
+module _ (file reply : List ℕ) where
+  -- whatever dispatch ends with by the rules has demand 3
+  pub promised : {r : DispatchResult} → dispatched file reply ≡ r → (dispatched file reply ≡ r) × (fileVerdict file ≡ Verdict.Accepted → 92 ≤ length reply → Promise file r)
+  promised e = (e, λ a l. subst (Promise file) e (demand3 file reply a l))
+
+  pub short : length reply < 92 → dispatched file reply ≡ record { answer = Dispatched.Refused BufferTooShort; reply = reply }
+  unfolding dispatched dispatchVerdict dispatchEnds
+  short h = rw (lt-ltb (length reply) 92 h)
+
+  module _ (long : 92 ≤ length reply) where
+    pub refused : (r : Refusal) → caseVerdict file ≡ Verdict.Refused r → dispatched file reply ≡ record { answer = Dispatched.Refused r; reply = reply }
+    unfolding dispatched dispatchVerdict dispatchEnds
+    refused r e = rw (le-ltb (length reply) 92 long, e)
+
+    pub replied : {coefficients ends ranges outputs : List ℕ} {n t c w : ℕ} → First file coefficients ends ranges outputs n t c w → {r : code-reply.Reply} → Solves coefficients ends ranges n t (record { outputs = outputs; cost = c; net = w }) r → {l : ℕ} {s : List ℕ} → l ≡ length (replyBytes (replyHeld n r)) → s ≡ over (replyBytes (replyHeld n r)) reply → dispatched file reply ≡ record { answer = Dispatched.Replied l; reply = s }
+    unfolding dispatched dispatchVerdict dispatchEnds
+    replied f v m n = rw (le-ltb (length reply) 92 long, f .accepted, m, n, solution f v)

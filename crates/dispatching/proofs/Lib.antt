@@ -1,0 +1,3 @@
+pub mod ReplyWritten
+pub mod Stating
+pub mod Endings

@@ -1,0 +1,2 @@
+pub mod ReplyHeld
+pub mod Solved

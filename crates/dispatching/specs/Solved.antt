@@ -1,0 +1,26 @@
+-- What is asked and answered between the search and the reply, for every problem that the arrays hold.
+use Prim.Native.Nat.{ℕ, _≤_}
+use mathlib.Core.Path.{_≡_}
+use mathlib.Core.List.{List}
+use lib.ListN.{length}
+use Rattle.rules.specs.Problem.{Problem, target}
+use Rattle.rules.specs.Bisection.{Found, greatestOutputs, replyOf, solve}
+use Rattle.pricing.specs.Totals.{HoldsOutputs}
+use Rattle.bisection.specs.declared.steps.Allocation as code-allocation
+use Rattle.bisection.specs.declared.steps.Found as code-found
+use Rattle.bisection.specs.Search.{sumsOf, Holding, HoldsFound}
+use Rattle.bisection.specs.Solving.{Measurable}
+use Rattle.dispatching.specs.declared.reply.Reply as code-reply
+use Rattle.dispatching.specs.ReplyHeld.{replyHeld}
+
+-- gap and surplus are not negative
+pub record Stateable (t : ℕ) (f : code-found.Found) : Type 0 where
+  pub covers : t ≤ f .best .net
+  pub measurable : Measurable (f .best .cost) (f .floor)
+
+pub record States (t : ℕ) (f : code-found.Found) (r : code-reply.Reply) : Type 0 where
+  pub held : (q : Problem) → t ≡ target q → (g : Found (List ℕ)) → HoldsFound q g f → replyHeld (length (q .offers)) r ≡ replyOf q g
+
+-- the reply to every such problem
+pub record Solves (coefficients ends ranges : List ℕ) (n t : ℕ) (first : code-allocation.Allocation) (r : code-reply.Reply) : Type 0 where
+  pub held : (q : Problem) → Holding coefficients ends ranges n t q → HoldsOutputs q (greatestOutputs q) (first .outputs) (sumsOf first) → replyHeld n r ≡ solve q

@@ -1,0 +1,50 @@
+// The reply's bytes: five numbers, and from byte 28 the outputs, written into the lent tail.
+ghost use mathlib.Core.Path.{_≡_};
+ghost use Prim.Native.Nat.{_+_, _*_, _≤_};
+ghost use lib.ListN.{length, take};
+ghost use Rattle.fields.specs.Field.{bytesOfEach};
+ghost use Rattle.rules.specs.Lists.{over};
+ghost use Rattle.rules.specs.Calls.{replyBytes};
+ghost use Rattle.dispatching.specs.ReplyHeld.{replyHeld};
+
+// What the reply states, besides the number of units.
+pub struct Reply {
+    pub evaluations: u16,
+    pub cost: u64,
+    pub gap: u64,
+    pub surplus: u64,
+    pub outputs: [u16; 32],
+}
+
+// Writes the first `n` outputs, 16 bits each, from the start of `s` on.
+fn write_outputs(s: &mut [u8], outputs: [u16; 32], n: usize)
+    requires { ⌜ (n ≤ 32) × (2 * n ≤ length (now s)) ⌝ }
+    ensures { λ _. ⌜ now (s .exit) ≡ over (bytesOfEach 2 (take n outputs)) (now (s .entry)) ⌝ }
+{
+    let mut i = 0;
+    while i < n {
+        fields::write_u16(s, 2 * i, outputs[i]);
+        i += 1;
+    }
+}
+
+// Writes the reply for `n` units, and gives its length.
+pub fn write_reply(s: &mut [u8], n: usize, r: Reply) -> usize
+    requires { ⌜ (n ≤ 32) × (92 ≤ length (now s)) ⌝ }
+    ensures { λ l. ⌜ (l ≡ length (replyBytes (replyHeld n r))) × (now (s .exit) ≡ over (replyBytes (replyHeld n r)) (now (s .entry))) ⌝ }
+{
+    let Reply {
+        evaluations,
+        cost,
+        gap,
+        surplus,
+        outputs,
+    } = r;
+    fields::write_u16(s, 0, n as u16);
+    fields::write_u16(s, 2, evaluations);
+    fields::write_u64(s, 4, cost);
+    fields::write_u64(s, 12, gap);
+    fields::write_u64(s, 20, surplus);
+    write_outputs(&mut s[28..], outputs, n);
+    28 + 2 * n
+}
