@@ -122,9 +122,9 @@ pub record Lowering (coefficients : List ℕ) (n t : ℕ) (s : code.Sums) (least
   pub sized : Sized n r
   pub held : (q : Problem) (m : ℕ) → HoldsChoices coefficients n m s least before q → Lowered m t (s .net) q outputs (r .cost) (r .net) i
 
-module _ {coefficients : List ℕ} {n t : ℕ} {s : code.Sums} {least before : List ℕ} {spread : ℕ} (g : Lowerable coefficients n s spread least before) where
+module _ {coefficients : List ℕ} {n t : ℕ} {s : code.Sums} {least before : List ℕ} {ties : ℕ} (g : Lowerable coefficients n s ties least before) where
   -- where nothing ties below a choice there is nothing to do
-  pub nothing-to-lower : spread ≡ 0 → Lowers coefficients n t s least before before s
+  pub nothing-to-lower : ties ≡ 0 → Lowers coefficients n t s least before before s
   nothing-to-lower e =
       record {
         sized = g .sized;

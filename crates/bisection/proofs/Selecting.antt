@@ -50,7 +50,7 @@ module _ {coefficients ends ranges : List ℕ} {n : ℕ} (t m : ℕ) {outputs le
         tied = ev .tied .places q h;
       }
 
-  pub lowerable : Searchable coefficients ends ranges n t → n ≤ length outputs → n ≤ length least → Lowerable coefficients n s (v .spread) least outputs
+  pub lowerable : Searchable coefficients ends ranges n t → n ≤ length outputs → n ≤ length least → Lowerable coefficients n s (v .ties) least outputs
   lowerable g room known =
       record {
         few = g .holds .problem .few;

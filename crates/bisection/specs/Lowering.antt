@@ -43,7 +43,7 @@ pub record HoldsChoices (coefficients : List ℕ) (n m : ℕ) (s : Sums) (least 
   pub choices : HoldsOutputs q (map (choice m) (q .offers)) outputs s
   pub tied : take n least ≡ map (leastTied m) (q .offers)
 
-pub record Lowerable (coefficients : List ℕ) (n : ℕ) (s : Sums) (spread : ℕ) (least outputs : List ℕ) : Type 0 where
+pub record Lowerable (coefficients : List ℕ) (n : ℕ) (s : Sums) (ties : ℕ) (least outputs : List ℕ) : Type 0 where
   pub few : n ≤ 32
   pub sized : Sized n s
   pub room : n ≤ length outputs
@@ -51,7 +51,7 @@ pub record Lowerable (coefficients : List ℕ) (n : ℕ) (s : Sums) (spread : �
   pub multiplier : ℕ
   pub problem : Problem
   pub holds : HoldsChoices coefficients n multiplier s least outputs problem
-  pub alone : spread ≡ 0 → take n least ≡ take n outputs
+  pub alone : ties ≡ 0 → take n least ≡ take n outputs
 
 -- the outputs are the lowered ones, of every such problem
 pub record Lowers (coefficients : List ℕ) (n t : ℕ) (s : Sums) (least before after : List ℕ) (r : Sums) : Type 0 where

@@ -1,4 +1,4 @@
--- What a search is asked for: a problem that step 1 accepts, with its first best, whichever the arrays hold; and of what it finds a cost and a floor of which the difference is taken.
+-- What dispatch and judging know before they search: the arrays hold a problem that step 1 accepts, with its first best; and a cost and a floor of which `distance` takes the difference.
 use Prim.Native.Nat.{ℕ, _≤_}
 use mathlib.Core.Path.{_≡_}
 use mathlib.Core.Bool.{true}

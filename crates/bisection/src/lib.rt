@@ -1,4 +1,5 @@
-// The dual bisection (section 11 of docs/SPECIFICATION.md) over a decoded site: what it finds, and what it evaluates on the way.
+// The dual bisection over a decoded site, steps 2 to 4 (rules 11.3 to 11.11 of docs/SPECIFICATION.md): what it finds, and what it
+// evaluates on the way; and how far a cost lies above a floor.
 ghost use mathlib.Core.Path.{_≡_};
 ghost use lib.IntN.{pos, _-ℤ_};
 ghost use Rattle.rules.specs.Numbers.{natural};

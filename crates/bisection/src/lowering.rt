@@ -30,21 +30,21 @@ fn lower_unit(
     }
 }
 
-// Lowers the first `n` units one by one; `outputs` are their choices, of cost and net `s`, and `least` their least tied outputs,
-// together `spread` steps below.
+// Lowers the first `n` units one by one; `outputs` are their choices, of cost and net `s`, and `least` their least tied outputs, of
+// which `ties` may be lower.
 pub fn lower(
     coefficients: &[u64; 160],
     n: usize,
     target: u64,
     s: Sums,
-    spread: u64,
+    ties: u64,
     least: &[u16],
     outputs: &mut [u16],
 ) -> Sums
-    requires { ⌜ Lowerable (now coefficients) n s spread (now least) (now outputs) ⌝ }
+    requires { ⌜ Lowerable (now coefficients) n s ties (now least) (now outputs) ⌝ }
     ensures { λ r. ⌜ Lowers (now (coefficients .entry)) n target s (now (least .entry)) (now (outputs .entry)) (now (outputs .exit)) r ⌝ }
 {
-    if spread == 0 {
+    if ties == 0 {
         return s;
     }
     let mut sums = s;

@@ -73,7 +73,7 @@ fn halve(
         }
         width = width / 2;
         let middle = low + width;
-        let Evaluated { cost, net, spread } = pricing::evaluate(
+        let Evaluated { cost, net, ties } = pricing::evaluate(
             coefficients,
             ends,
             ranges,
@@ -88,15 +88,7 @@ fn halve(
         floor = greater(pricing::floor_of(dual), floor);
         evaluations += 1;
         if net >= target {
-            let Sums { cost, net } = lower(
-                coefficients,
-                n,
-                target,
-                s,
-                spread,
-                &least,
-                &mut outputs,
-            );
+            let Sums { cost, net } = lower(coefficients, n, target, s, ties, &least, &mut outputs);
             if net == target {
                 break Found {
                     best: Allocation { outputs, cost, net },
@@ -128,7 +120,7 @@ pub fn search(
 {
     let mut outputs = [0u16; 32];
     let mut least = [0u16; 32];
-    let Evaluated { cost, net, spread } = pricing::evaluate(
+    let Evaluated { cost, net, ties } = pricing::evaluate(
         coefficients,
         ends,
         ranges,
@@ -142,14 +134,14 @@ pub fn search(
     note(trace, 0, 0, dual);
     let floor = pricing::floor_of(dual);
     if net >= target {
-        let Sums { cost, net } = lower(coefficients, n, target, s, spread, &least, &mut outputs);
+        let Sums { cost, net } = lower(coefficients, n, target, s, ties, &least, &mut outputs);
         return Found {
             best: Allocation { outputs, cost, net },
             floor,
             evaluations: 1,
         };
     }
-    let Evaluated { cost, net, spread } = pricing::evaluate(
+    let Evaluated { cost, net, ties } = pricing::evaluate(
         coefficients,
         ends,
         ranges,
@@ -169,7 +161,7 @@ pub fn search(
             evaluations: 2,
         };
     }
-    let Sums { cost, net } = lower(coefficients, n, target, s, spread, &least, &mut outputs);
+    let Sums { cost, net } = lower(coefficients, n, target, s, ties, &least, &mut outputs);
     let covering = Found {
         best: Allocation { outputs, cost, net },
         floor,

@@ -2,3 +2,4 @@ pub mod Heights
 pub mod Valley
 pub mod Regions
 pub mod Signed
+pub mod Giving

@@ -5,9 +5,11 @@ use mathlib.Core.List.{List}
 use mathlib.Core.Path.{_≡_}
 use lib.IntN.{ℤ}
 use lib.Signed.{_<ℤ_}
+use Rattle.rules.proofs.Economics.Chosen.{Chosen}
 use Rattle.site.specs.Site.{low, high, Regions}
 use Rattle.choice.specs.Curve.{height, InRange}
 use Rattle.choice.specs.declared.Curve.{Curve}
+use Rattle.choice.specs.declared.Choice.{Choice}
 
 -- on from..to the function f falls strictly before v and rises strictly from v; of the step into v nothing is said
 pub record Valley (f : ℕ → ℤ) (from to v : ℕ) : Type 0 where
@@ -46,3 +48,8 @@ pub record Choosable (ends : List ℕ) (first last : ℕ) (c : Curve) : Type 0 w
   pub few : last < 192
   pub regions : Regions ends first last
   pub curve : InRange c
+
+-- of the candidates of least cost the greatest and the least, which are one where they are not said to tie
+pub record Gives (f : ℕ → ℤ) (Candidate : ℕ → Type 0) (r : Choice) : Type 0 where
+  pub chosen : Chosen f Candidate (r .greatest) (r .least)
+  pub alone : r .tied ≡ false → r .least ≡ r .greatest

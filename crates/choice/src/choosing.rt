@@ -1,13 +1,12 @@
 // A unit's choice and its least tied output: of its permitted outputs of least priced cost the greatest and the least. On running
 // outputs the priced cost falls until its vertex and rises from there, so that both lie beside the vertex; standing is compared apart.
-ghost use mathlib.Core.Bool.{Bool};
+ghost use mathlib.Core.Bool.{Bool, true, false};
 ghost use mathlib.Core.Path.{_≡_};
 ghost use Prim.Native.Nat.{_+_, _≤_, _<_};
 ghost use Rattle.rules.specs.Choice.{better as later·of, earlier as earlier·of};
-ghost use Rattle.rules.proofs.Economics.Chosen.{Chosen};
 ghost use Rattle.site.specs.Site.{high, Within};
 ghost use Rattle.choice.specs.Curve.{height, pricedAt, InRange};
-ghost use Rattle.choice.specs.Choosing.{Places, Reaching, Running, Beside, Choosable};
+ghost use Rattle.choice.specs.Choosing.{Places, Reaching, Running, Beside, Choosable, Gives};
 use crate::Choice;
 use crate::Curve;
 use crate::units::priced_cost;
@@ -21,11 +20,12 @@ fn wide(x: u16) -> u64
 
 // Two outputs that tie.
 fn both(below: u16, above: u16) -> Choice
-    ensures { λ r. ⌜ (r .greatest ≡ above) × (r .least ≡ below) ⌝ }
+    ensures { λ r. ⌜ (r .greatest ≡ above) × (r .least ≡ below) × (r .tied ≡ true) ⌝ }
 {
     Choice {
-        greatest: wide(above),
-        least: wide(below),
+        greatest: above,
+        least: below,
+        tied: true,
     }
 }
 
@@ -33,13 +33,17 @@ fn both(below: u16, above: u16) -> Choice
 fn only(p: u16) -> Choice
     ensures { λ r. ⌜ (r .greatest ≡ p) × (r .least ≡ p) ⌝ }
 {
-    both(p, p)
+    Choice {
+        greatest: p,
+        least: p,
+        tied: false,
+    }
 }
 
 // The better of two outputs, or both.
 fn better(c: Curve, below: u16, above: u16) -> Choice
     requires { ⌜ InRange c × (below ≤ 10000) × (above ≤ 10000) ⌝ }
-    ensures { λ r. ⌜ (r .greatest ≡ later·of (height c) below above) × (r .least ≡ earlier·of (height c) below above) ⌝ }
+    ensures { λ r. ⌜ (r .greatest ≡ later·of (height c) below above) × (r .least ≡ earlier·of (height c) below above) × (r .tied ≡ false → r .least ≡ r .greatest) ⌝ }
 {
     let x = priced_cost(c, below);
     let y = priced_cost(c, above);
@@ -78,7 +82,7 @@ fn choose_beside(
     tied: bool,
 ) -> Choice
     requires { ⌜ Beside (now ends) first last c v tied ⌝ }
-    ensures { λ r. ⌜ Chosen (height c) (Within (now (ends .entry)) first last) (r .greatest) (r .least) ⌝ }
+    ensures { λ r. ⌜ Gives (height c) (Within (now (ends .entry)) first last) r ⌝ }
 {
     let k = region_reaching(ends, first, last, v);
     let low = ends[2 * k];
@@ -97,7 +101,7 @@ fn choose_beside(
 // The choice among running outputs: an end of them, unless the vertex lies between; all of them where the priced cost is flat.
 fn choose_running(ends: &[u16; 384], first: usize, last: usize, c: Curve) -> Choice
     requires { ⌜ Running (now ends) first last c ⌝ }
-    ensures { λ r. ⌜ Chosen (height c) (Within (now (ends .entry)) first last) (r .greatest) (r .least) ⌝ }
+    ensures { λ r. ⌜ Gives (height c) (Within (now (ends .entry)) first last) r ⌝ }
 {
     let Curve { square, linear, .. } = c;
     let lowest = ends[2 * first];
@@ -138,7 +142,7 @@ fn first_running(ends: &[u16; 384], first: usize) -> usize
 // The choice among the regions `first`..=`last`; standing costs nothing.
 pub fn choose(ends: &[u16; 384], first: usize, last: usize, c: Curve) -> Choice
     requires { ⌜ Choosable (now ends) first last c ⌝ }
-    ensures { λ r. ⌜ Chosen (pricedAt c) (Within (now (ends .entry)) first last) (r .greatest) (r .least) ⌝ }
+    ensures { λ r. ⌜ Gives (pricedAt c) (Within (now (ends .entry)) first last) r ⌝ }
 {
     let from = first_running(ends, first);
     if from > last {
@@ -148,8 +152,7 @@ pub fn choose(ends: &[u16; 384], first: usize, last: usize, c: Curve) -> Choice
     if from == first {
         return running;
     }
-    let Choice { greatest, .. } = running;
-    let p = greatest as u16;
+    let p = running.greatest;
     let priced = priced_cost(c, p);
     if priced > 0 {
         return only(0);

@@ -15,9 +15,10 @@ pub struct Curve {
     pub constant: u64,
 }
 
-// A unit's outputs of least priced cost: the greatest, which is its choice, and the least, to which it may be lowered. (In 64 bits,
-// so that each stays in a register: two of 16 were packed into one and unpacked again for every unit, a tenth of a dispatch.)
+// A unit's outputs of least priced cost: the greatest, which is its choice, and the least, to which it may be lowered; `tied` is false
+// only where the two are one.
 pub struct Choice {
-    pub greatest: u64,
-    pub least: u64,
+    pub greatest: u16,
+    pub least: u16,
+    pub tied: bool,
 }

@@ -1,4 +1,4 @@
--- What the code's structs hold, as the rules' records.
+-- What the code's `Reply` holds, as the rules' record.
 use Prim.Native.Nat.{ℕ}
 use lib.ListN.{take}
 use Rattle.rules.specs.Bisection.{Reply}

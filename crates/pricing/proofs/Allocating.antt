@@ -1,4 +1,5 @@
 -- A loop that gives the units their outputs one by one: what stands so far, with what is still to come, is the whole. Of any output that is picked of an offer, so of the choices, of the least tied and of the greatest outputs.
+use mathlib.Core.Bool.{Bool, true, false, cond}
 use mathlib.Core.Path.{_≡_, refl, sym, ap, ap₂, _∙_, subst}
 use mathlib.Core.List.{List, [], _∷_, _++_, map, append-assoc, append-nil}
 use Prim.Native.Nat.{ℕ, _+_, _*_, _-_, _≤_, _<_}
@@ -116,20 +117,20 @@ module _ (pick : Offer → ℕ) where
     pub filling-ends : {i : ℕ} → Filling coefficients ends ranges n array i → i ≡ n → HoldsEach pick coefficients ends ranges n array
     filling-ends {i} s e = record { places = λ q h. subst (λ (k : ℕ). take k array ≡ map pick (q .offers)) (h .count) (filled-ends q array i (s .held q h) (omega (arith, h .count))) }
 
--- two arrays that are filled alike, as long as what they differ by is summed
-pub record Spread (outputs least : List ℕ) (spread i : ℕ) : Type 0 where
-  pub small : spread ≤ 10000 * i
-  pub alone : spread ≡ 0 → take i least ≡ take i outputs
+-- two arrays that are filled alike, as long as the places where they may differ are counted
+pub record Ties (outputs least : List ℕ) (ties i : ℕ) : Type 0 where
+  pub small : ties ≤ i
+  pub alone : ties ≡ 0 → take i least ≡ take i outputs
 
-pub spread-starts : (outputs least : List ℕ) → Spread outputs least 0 0
-spread-starts outputs least = record { small = omega arith; alone = λ _. refl }
+pub ties-start : (outputs least : List ℕ) → Ties outputs least 0 0
+ties-start outputs least = record { small = omega arith; alone = λ _. refl }
 
-pub spread-more : {outputs least : List ℕ} {spread i p l : ℕ} → Spread outputs least spread i → i < length outputs → i < length least → p ≤ 10000 → l ≤ p → Spread (set outputs i p) (set least i l) (spread + (p - l)) (i + 1)
-spread-more {outputs} {least} {spread} {i} {p} {l} s h k small order =
+pub ties-more : {outputs least : List ℕ} {ties i p l : ℕ} → Ties outputs least ties i → i < length outputs → i < length least → (tied : Bool) → (tied ≡ false → l ≡ p) → Ties (set outputs i p) (set least i l) (ties + cond tied 1 0) (i + 1)
+ties-more s h k true same = record { small = omega (arith, s .small); alone = λ e. absurd (omega arith) }
+ties-more {outputs} {least} {ties} {i} {p} {l} s h k false same =
     record {
       small = omega (arith, s .small);
       alone = λ e.
-          let same : l ≡ p = omega arith in
           let before = s .alone (omega arith) in
-          rw (add-one i) (take-suc-set least i l k ∙ ap₂ (λ (xs : List ℕ) (x : ℕ). xs ++ (x ∷ [])) before same ∙ sym (take-suc-set outputs i p h));
+          rw (add-one i) (take-suc-set least i l k ∙ ap₂ (λ (xs : List ℕ) (x : ℕ). xs ++ (x ∷ [])) before (same refl) ∙ sym (take-suc-set outputs i p h));
     }

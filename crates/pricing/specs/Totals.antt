@@ -38,11 +38,11 @@ pub record Allocates (pick : Offer → ℕ) (coefficients ends ranges : List ℕ
   pub sized : Sized n s
   pub held : (q : Problem) → HoldsProblem coefficients ends ranges n q → HoldsOutputs q (map pick (q .offers)) outputs s
 
--- an evaluation of m: the choices, the least tied outputs, and a spread that is 0 only where the two do not differ
+-- an evaluation of m: the choices, the least tied outputs, and a number of ties that is 0 only where the two do not differ
 pub record Evaluates (m : ℕ) (coefficients ends ranges : List ℕ) (n : ℕ) (outputs least : List ℕ) (r : Evaluated) : Type 0 where
   pub allocates : Allocates (choice m) coefficients ends ranges n outputs (record { cost = r .cost; net = r .net })
   pub tied : HoldsEach (leastTied m) coefficients ends ranges n least
-  pub alone : r .spread ≡ 0 → take n least ≡ take n outputs
+  pub alone : r .ties ≡ 0 → take n least ≡ take n outputs
 
 -- a dual value in range
 pub record Dualable (s : Sums) (t m : ℕ) : Type 0 where

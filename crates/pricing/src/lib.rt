@@ -16,12 +16,12 @@ pub struct Sums {
     pub net: u64,
 }
 
-// What an evaluation gives besides its arrays: cost and net of the choices together, and the steps by which they lie above the
-// least tied outputs, summed; it is promised that 0 is given only where no unit has a lower tied output.
+// What an evaluation gives besides its arrays: cost and net of the choices together, and how many units tie; it is promised that 0 is
+// given only where no unit has a lower tied output.
 pub struct Evaluated {
     pub cost: u64,
     pub net: u64,
-    pub spread: u64,
+    pub ties: u64,
 }
 
 // What checking, decoding and step 1 give besides the arrays: the number of units, the net that covers the demand, and the cost

@@ -1,5 +1,6 @@
 // All units of a decoded site at one multiplier: their choices with cost and net together and their least tied outputs, the dual
 // value and its floor; and their greatest outputs.
+ghost use mathlib.Core.Bool.{cond};
 ghost use mathlib.Core.Path.{_≡_};
 ghost use Prim.Native.Nat.{_+_, _*_, _≤_};
 ghost use lib.ListN.{length};
@@ -9,11 +10,16 @@ ghost use Rattle.fields.proofs.Integers.{Is};
 ghost use Rattle.pricing.specs.Totals.{Held, Evaluable, Evaluates, Allocates, Dualable};
 use crate::Evaluated;
 use crate::Sums;
-use choice::Choice;
 use choice::choose;
 use choice::cost_of;
 use choice::curve_of;
 use choice::net_of;
+
+fn count(tied: bool) -> u64
+    ensures { λ r. ⌜ r ≡ cond tied 1 0 ⌝ }
+{
+    if tied { 1 } else { 0 }
+}
 
 // The choices of the first `n` units at multiplier `m`, written into `outputs`, and their least tied outputs, into `least`.
 pub fn evaluate(
@@ -30,21 +36,21 @@ pub fn evaluate(
 {
     let mut cost: u64 = 0;
     let mut net: u64 = 0;
-    let mut spread: u64 = 0;
+    let mut ties: u64 = 0;
     let mut i = 0;
     while i < n {
         let first = ranges[2 * i] as usize;
         let last = ranges[2 * i + 1] as usize;
-        let Choice { greatest, least: l } = choose(ends, first, last, curve_of(coefficients, i, m));
-        let p = greatest as u16;
+        let c = choose(ends, first, last, curve_of(coefficients, i, m));
+        let p = c.greatest;
         outputs[i] = p;
-        least[i] = l as u16;
-        spread += greatest - l;
+        least[i] = c.least;
+        ties += count(c.tied);
         cost += cost_of(coefficients, i, p);
         net += net_of(coefficients, i, p);
         i += 1;
     }
-    Evaluated { cost, net, spread }
+    Evaluated { cost, net, ties }
 }
 
 // The greatest outputs of the first `n` units, written into `outputs`.

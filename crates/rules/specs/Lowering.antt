@@ -1,4 +1,4 @@
--- Rules 10.5 and 16.18 of docs/SPECIFICATION.md (since S-6), as statements: what lowering keeps, what it saves, and that it goes further where there is more to spare. (They are proved in proofs/Saving.)
+-- Rules 10.4, 10.5 and 16.18 of docs/SPECIFICATION.md (since S-6), as statements: what is lowered, what lowering keeps and saves, and that it goes further where there is more to spare. (They are proved in proofs/Saving.)
 use Prim.Native.Nat.{ℕ, _+_, _*_, _≤_}
 use mathlib.Core.Bool.{cond}
 use mathlib.Core.List.{List, _∷_, _++_, map}
@@ -39,11 +39,11 @@ InFileOrder m q =
 abbrev pub LowersInFileOrder : Type 0
 LowersInFileOrder = (file : List ℕ) → caseVerdict file ≡ Verdict.Accepted → (m : ℕ) → InFileOrder m (problemIn file)
 
--- the same case with a smaller demand: where the greater one is covered so is the smaller one, with no more net and at no more cost
+-- the same case with a smaller demand: no more net, and at no more cost; and where the greater one is covered so is the smaller one
 pub record MoreSlack (m d : ℕ) (q : Problem) : Type 0 where
   pub covers : target q ≤ totalNet (unitsOf q) (selected m q) → target (record { demand = d; offers = q .offers }) ≤ totalNet (unitsOf q) (selected m (record { demand = d; offers = q .offers }))
-  pub net : target q ≤ totalNet (unitsOf q) (selected m q) → totalNet (unitsOf q) (selected m (record { demand = d; offers = q .offers })) ≤ totalNet (unitsOf q) (selected m q)
-  pub cost : target q ≤ totalNet (unitsOf q) (selected m q) → totalCost (unitsOf q) (selected m (record { demand = d; offers = q .offers })) ≤ totalCost (unitsOf q) (selected m q)
+  pub net : totalNet (unitsOf q) (selected m (record { demand = d; offers = q .offers })) ≤ totalNet (unitsOf q) (selected m q)
+  pub cost : totalCost (unitsOf q) (selected m (record { demand = d; offers = q .offers })) ≤ totalCost (unitsOf q) (selected m q)
 
 abbrev pub LowersFurtherWithMoreToSpare : Type 0
 LowersFurtherWithMoreToSpare = (file : List ℕ) → caseVerdict file ≡ Verdict.Accepted → (m d : ℕ) → d ≤ problemIn file .demand → MoreSlack m d (problemIn file)

@@ -50,6 +50,10 @@ module _ (m : ℕ) (q : Problem) (d : ℕ) where
 pub dual-rises : (m : ℕ) (q : Problem) (d e : ℕ) → d ≤ e → dualFor m q d ≤ℤ dualFor m q e
 dual-rises m q d e h = rw (dual-for m q d, dual-for m q e) (at-most (parts m q d d) (parts m q e e) (omega (arith, mul-le-mul-left m h)))
 
+-- at 0 it is the same for every demand
+pub dual-at-zero : (q : Problem) (d e : ℕ) → dualFor 0 q d ≡ dualFor 0 q e
+dual-at-zero q d e = rw (dual-for 0 q d, dual-for 0 q e) (same (parts 0 q d d) (parts 0 q e e) (omega arith))
+
 -- ---- rounding up, and the greatest
 
 module _ (f : ℕ → ℤ) where

@@ -15,9 +15,9 @@ use Rattle.rules.specs.Lists.{all, over}
 use Rattle.rules.specs.Numbers.{dividedUp, greatestAt}
 use Rattle.rules.specs.Layout.{caseOf}
 use Rattle.rules.specs.Refusal.{_refuses_, _then_}
-use Rattle.rules.specs.Problem.{totalCost, totalNet, covers, Problem, target, problemOf, problemIn}
+use Rattle.rules.specs.Problem.{totalCost, totalNet, covers, Problem, unitsOf, target, problemOf, problemIn}
 use Rattle.rules.specs.Choice.{selected, floor}
-use Rattle.rules.specs.Bisection.{found, solvable}
+use Rattle.rules.specs.Bisection.{Found, found, greatestOutputs, solvable}
 use Rattle.rules.specs.Calls.{caseVerdict, dispatchVerdict, dispatchEnds, dispatched}
 use Rattle.rules.specs.Promise.{Permitted, GreatestFloor, costLessGap, replyIn}
 use Rattle.rules.specs.declared.Refusal.{Refusal}
@@ -33,18 +33,22 @@ use Rattle.rules.proofs.Economics.Duality.{weak-duality, floor-zero-not-negativ
 use Rattle.rules.proofs.Economics.Greatest.{greatest-of, greatest-same, greatest-rises}
 use Rattle.rules.proofs.Economics.Lowering.{selected-tied}
 use Rattle.rules.proofs.Economics.Rounding.{divided-rises}
+use Rattle.rules.proofs.Economics.Steps.{search-covers}
 use Rattle.rules.proofs.Economics.Solvable.{case-proper, solvable-available}
 use Rattle.rules.proofs.Economics.Solution.{same-cost, same-net, permitted-given, greatest-floor}
 use Rattle.rules.proofs.Demand3.{case-accepted, demand3}
 use Rattle.rules.proofs.Replied.{replied}
 use Rattle.sensitivity.specs.declared.Floored.{Floored}
-use Rattle.sensitivity.specs.Floors.{dualFor, floorFor, floorsVerdict, floorsEnd, floored}
-use Rattle.sensitivity.specs.Claims.{OfThatDemand, Floors, Bounds, OwnDemand, NotAboveDispatch, RefusesAsDispatch}
-use Rattle.sensitivity.proofs.Carried.{at, floor-for, dual-rises}
-use Rattle.sensitivity.proofs.Outcomes.{ended}
+use Rattle.sensitivity.specs.Floors.{dualFor, floorFor, floorsVerdict, floorsEnd, floored, panelFloored}
+use Rattle.sensitivity.specs.Claims.{CarriedDual, OfThatDemand, Floors, Bounds, OwnDemand, NotAboveDispatch, AlikeFromOne, OneAtZero, ToldInC, RefusesAsDispatch}
+use Rattle.sensitivity.proofs.Carried.{at, dual-for, floor-for, dual-rises, dual-at-zero}
+use Rattle.sensitivity.proofs.Outcomes.{ended, floors-told}
 use Rattle.sensitivity.proofs.Tracing.{seen}
 
 -- (rule 20.3)
+pub carried-dual : CarriedDual dualFor
+carried-dual = dual-for
+
 pub of-that-demand : OfThatDemand floorFor
 unfolding floorFor
 of-that-demand q d = greatest-same (λ m. dividedUp (dualFor m q d) 100000) (λ m. floor m (at q d)) (found q .evaluated) (λ m _. floor-for m q d)
@@ -167,6 +171,20 @@ not-above-dispatch file demands other buffer floors n k i e r h same =
     let w = wrote file demands floors n e in
     let g : GreatestFloor (problemOf (record { demand = getD demands i 0; units = caseOf file .units })) _ = subst (λ c. GreatestFloor (problemOf c) (costLessGap (replyIn (dispatched other buffer .reply)))) same (reply-greatest other buffer k r) in
     rw (floor-at w i h) (floor-within file (w .accepted) (getD demands i 0) g)
+
+pub alike-from-one : AlikeFromOne floored
+unfolding floorFor greatestAt
+alike-from-one file demands floors n i j e one h k =
+    let w = wrote file demands floors n e in
+    let alike : floorFor (problemIn file) (getD demands i 0) ≡ floorFor (problemIn file) (getD demands j 0) = rw one (ap (λ (z : ℤ). dividedUp z 100000) (dual-at-zero (problemIn file) (getD demands i 0) (getD demands j 0))) in
+    floor-at w i h ∙ alike ∙ sym (floor-at w j k)
+
+pub one-at-zero : OneAtZero
+unfolding found
+one-at-zero q e = ap (λ (f : Found (List ℕ)). f .evaluated) (search-covers (λ m. selected m q) (totalNet (unitsOf q)) (target q) (greatestOutputs q) (omega (arith, e)))
+
+pub told-in-c : ToldInC panelFloored floored
+told-in-c file demands floors answers h = floors-told file demands floors answers h refl refl refl refl
 
 -- ---- of a call that is refused
 

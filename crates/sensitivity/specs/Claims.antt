@@ -1,7 +1,7 @@
--- Rules 20.2, 20.3, 20.5 to 20.7 and 20.9 of docs/SPECIFICATION.md: what holds of every floor that the call writes, and what it refuses, as statements. (They are proved in proofs/Claims.)
+-- Rules 20.2, 20.3 and 20.5 to 20.9 of docs/SPECIFICATION.md: what holds of every floor that the call writes, and what it refuses, as statements. (They are proved in proofs/Claims.)
 use Prim.Native.Nat.{ℕ, _≤_, _<_}
 use mathlib.Core.Bool.{true}
-use mathlib.Core.List.{List}
+use mathlib.Core.List.{List, [], _∷_}
 use mathlib.Core.Path.{_≡_}
 use mathlib.Core.Logic.{_↔_}
 use lib.Dec.{leb}
@@ -10,17 +10,21 @@ use lib.ListN.{length, getD}
 use lib.Signed.{_≤ℤ_}
 use Rattle.rules.specs.Lists.{all}
 use Rattle.rules.specs.Layout.{Case, caseOf}
-use Rattle.rules.specs.Problem.{Problem, totalCost, totalNet, covers}
-use Rattle.rules.specs.Choice.{greatestFloor}
+use Rattle.rules.specs.Problem.{Problem, totalCost, totalNet, covers, problemIn}
+use Rattle.rules.specs.Choice.{dualValue, greatestFloor}
 use Rattle.rules.specs.Bisection.{found}
 use Rattle.rules.specs.Calls.{dispatched}
 use Rattle.rules.specs.Promise.{Permitted, costLessGap, replyIn}
 use Rattle.rules.specs.declared.Refusal.{Refusal}
 use Rattle.rules.specs.declared.Dispatched.{Dispatched}
 use Rattle.sensitivity.specs.declared.Floored.{Floored}
-use Rattle.sensitivity.specs.Floors.{FloorsResult}
+use Rattle.sensitivity.specs.Floors.{FloorsResult, PanelFloorsResult, numberOfFloored, answersOfFloored}
 
--- (rule 20.3) the floor for d is the greatest of the floors of the same offers with demand d, over the multipliers that the search evaluates for the case's own
+-- (rule 20.3) the dual value carried to d is that of the same offers with demand d
+abbrev pub CarriedDual : (ℕ → Problem → ℕ → ℤ) → Type 0
+CarriedDual carried = (m : ℕ) (q : Problem) (d : ℕ) → carried m q d ≡ dualValue m (record { demand = d; offers = q .offers })
+
+-- and the floor for d is the greatest of the floors of the same offers with demand d, over the multipliers that the search evaluates for the case's own
 abbrev pub OfThatDemand : (Problem → ℕ → ℤ) → Type 0
 OfThatDemand floorOf = (q : Problem) (d : ℕ) → floorOf q d ≡ greatestFloor (record { demand = d; offers = q .offers }) (found q .evaluated)
 
@@ -59,6 +63,28 @@ NotAboveDispatch call =
     → i < length demands
     → caseOf other ≡ record { demand = getD demands i 0; units = caseOf file .units }
     → getD (call file demands floors .floors) i (pos 0) ≤ℤ costLessGap (replyIn (dispatched other buffer .reply))
+
+-- (rule 20.9) where the search evaluates 0 alone, all floors are alike
+abbrev pub AlikeFromOne : (List ℕ → List ℕ → List ℤ → FloorsResult) → Type 0
+AlikeFromOne call =
+    (file demands : List ℕ) (floors : List ℤ) (n i j : ℕ)
+    → call file demands floors .answer ≡ Floored.Written n
+    → found (problemIn file) .evaluated ≡ 0 ∷ []
+    → i < length demands
+    → j < length demands
+    → getD (call file demands floors .floors) i (pos 0) ≡ getD (call file demands floors .floors) j (pos 0)
+
+-- and it does so at demand 0
+abbrev pub OneAtZero : Type 0
+OneAtZero = (q : Problem) → q .demand ≡ 0 → found q .evaluated ≡ 0 ∷ []
+
+-- (rule 20.8) in C, where the list of answers has a place: the number, the floors and the answer of the call
+abbrev pub ToldInC : (List ℕ → List ℕ → List ℤ → List ℤ → PanelFloorsResult) → (List ℕ → List ℕ → List ℤ → FloorsResult) → Type 0
+ToldInC inC call =
+    (file demands : List ℕ) (floors answers : List ℤ)
+    → 1 ≤ length answers
+    → let result = call file demands floors in
+    inC file demands floors answers ≡ record { number = numberOfFloored (result .answer); floors = result .floors; answers = answersOfFloored (result .answer) answers }
 
 -- (rule 20.2) where the demands are valid and there is room, it refuses what dispatch refuses, with the same number
 abbrev pub RefusesAsDispatch : (List ℕ → List ℕ → List ℤ → FloorsResult) → Type 0

@@ -4,6 +4,7 @@ use mathlib.Core.Bool.{Bool, true, false, cond}
 use mathlib.Core.List.{List, [], _∷_, _++_, map}
 use Prim.Native.Nat.{ℕ, suc, _+_, _*_, _-_, _≤_, _<_}
 use native.Mathlib.Nat.{mul-le-mul-left}
+use native.Mathlib.Decide.{decLe}
 use native.Mathlib.Omega.{arith}
 use lib.Dec.{leb}
 use lib.ListN.{length, getD, take}
@@ -196,16 +197,19 @@ module _ (q : Problem) (g : Every Available (q .offers)) (m d : ℕ) (less : d �
   unfolding choices
   chosen-net = refl
 
-  no-more-net : target q ≤ totalNet (unitsOf q) (selected m q) → totalNet (unitsOf q) (selected m q′) ≤ totalNet (unitsOf q) (selected m q)
-  no-more-net h =
-      let c : target q ≤ v = omega (arith, net-at-most q g m) in
-      let looser = selected-lowered q′ g m (omega (arith, same-net)) in
-      rw (selected-lowered q g m c, looser, same-net) (lowered-monotone m (target q) v (target q′) v (q .offers) g c (omega arith) (omega (arith, chosen-net)) (omega (arith, chosen-net)))
+  no-more-net : totalNet (unitsOf q) (selected m q′) ≤ totalNet (unitsOf q) (selected m q)
+  no-more-net = by (decLe (target q) v)
+    where
+      by : Dec (target q ≤ v) → totalNet (unitsOf q) (selected m q′) ≤ totalNet (unitsOf q) (selected m q)
+      by (yes c) =
+          let looser = selected-lowered q′ g m (omega (arith, same-net)) in
+          rw (selected-lowered q g m c, looser, same-net) (lowered-monotone m (target q) v (target q′) v (q .offers) g c (omega arith) (omega (arith, chosen-net)) (omega (arith, chosen-net)))
+      by (no n) = rw (selected-kept q g m (omega arith)) (omega (arith, net-at-most q′ g m, same-net))
 
   pub more-slack : MoreSlack m d q
   more-slack =
       record {
         covers = λ h. still-covers q′ g m (omega (arith, same-net, net-at-most q g m));
         net = no-more-net;
-        cost = λ h. costs-least (relaxation q′ g (λ n. selected n q′) (selected-tied q′ g)) m (selected m q) (tied-given m (q .offers) (selected m q) (selected-tied q g m)) (no-more-net h);
+        cost = costs-least (relaxation q′ g (λ n. selected n q′) (selected-tied q′ g)) m (selected m q) (tied-given m (q .offers) (selected m q) (selected-tied q g m)) no-more-net;
       }

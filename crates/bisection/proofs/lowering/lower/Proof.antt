@@ -6,10 +6,10 @@ use Rattle.bisection.proofs.lowering.lower.Statement.{statement}
 use Rattle.bisection.proofs.lowering.lower.Tie as tie
 
 abbrev Inv-loop : tie.InvT-loop
-Inv-loop coefficients n target spread least outputs₀ sums₀ i₀ outputs sums i = Lowering coefficients n target sums₀ least outputs₀ outputs sums i
+Inv-loop coefficients n target ties least outputs₀ sums₀ i₀ outputs sums i = Lowering coefficients n target sums₀ least outputs₀ outputs sums i
 
 abbrev μ-loop : tie.MeasureT-loop
-μ-loop coefficients n target spread least outputs₀ sums₀ i₀ outputs sums i = n - i
+μ-loop coefficients n target ties least outputs₀ sums₀ i₀ outputs sums i = n - i
 
 -- ---- from the loop back to the entry
 

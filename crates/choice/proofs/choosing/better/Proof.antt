@@ -8,6 +8,7 @@ use borrow.Author.Needs.{needs}
 use Rattle.fields.proofs.Integers.{itself, is-same, same, under, when-lt, when-ge}
 use Rattle.rules.proofs.Economics.Chosen.{prefers-lower, prefers-upper, prefers-both}
 use Rattle.choice.specs.Curve.{height}
+use Rattle.choice.proofs.Giving.{said}
 use Rattle.choice.proofs.choosing.better.Statement.{statement}
 use Rattle.choice.proofs.choosing.better.Tie as tie
 
@@ -37,7 +38,7 @@ returns c =
     let d = t .before in
     let a = entry d .args in
     let b = prefers-lower (height (a .c)) (a .below) (a .above) (under (itself _) (itself _) (when-lt (is-same (below-read d) (itself _)) (is-same (above-read d) (itself _)) (t .if1 .taken))) in
-    rw (c .only .ensures .0, c .only .ensures .1) (sym (b .0), sym (b .1))
+    (c .only .ensures .0 ∙ sym (b .0), c .only .ensures .1 ∙ sym (b .1), λ _. c .only .ensures .1 ∙ sym (c .only .ensures .0))
 
 only-requires-2 : tie.Need-only-requires-2
 only-requires-2 c κs = search needs
@@ -48,7 +49,7 @@ returns-2 c =
     let d = t .before .before in
     let a = entry d .args in
     let b = prefers-upper (height (a .c)) (a .below) (a .above) (under (itself _) (itself _) (when-lt (is-same (above-read d) (itself _)) (is-same (below-read d) (itself _)) (t .if2 .taken))) in
-    rw (c .only2 .ensures .0, c .only2 .ensures .1) (sym (b .0), sym (b .1))
+    (c .only2 .ensures .0 ∙ sym (b .0), c .only2 .ensures .1 ∙ sym (b .1), λ _. c .only2 .ensures .1 ∙ sym (c .only2 .ensures .0))
 
 both-requires : tie.Need-both-requires
 both-requires c κs = search needs
@@ -61,7 +62,7 @@ returns-3 c =
     let k = when-ge (is-same (below-read d) (itself _)) (is-same (above-read d) (itself _)) (t .before .if1 .left) in
     let h = when-ge (is-same (above-read d) (itself _)) (is-same (below-read d) (itself _)) (t .if2 .left) in
     let b = prefers-both (height (a .c)) (a .below) (a .above) (same (itself _) (itself _) (omega arith)) in
-    rw (c .both .ensures .0, c .both .ensures .1) (sym (b .0), sym (b .1))
+    (c .both .ensures .0 ∙ sym (b .0), c .both .ensures .1 ∙ sym (b .1), said (c .both .ensures .2))
 
 pub better-spec : {M : Type 1} → statement M
 better-spec = tie.close (tie.spec priced-cost-requires priced-cost-requires-2 only-requires returns only-requires-2 returns-2 both-requires returns-3)

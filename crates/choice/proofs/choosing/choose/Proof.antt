@@ -16,6 +16,7 @@ use Rattle.choice.specs.Choosing.{Running}
 use Rattle.choice.proofs.Signed.{zero-bits, other-bits}
 use Rattle.choice.proofs.Heights.{priced-running, priced-standing}
 use Rattle.choice.proofs.Regions.{small, from-lowest, runs, running-chosen, only-stands, behind-standing, stands-better, runs-better, stands-or-runs}
+use Rattle.choice.proofs.Giving.{gives-only, gives-both}
 use Rattle.choice.proofs.choosing.choose.Statement.{statement}
 use Rattle.choice.proofs.choosing.choose.Tie as tie
 
@@ -30,7 +31,7 @@ only-requires : tie.Need-only-requires
 only-requires c κs = search needs
 
 returns : tie.Need-returns
-returns c = rw (c .only .ensures .0, c .only .ensures .1) (by (c .before) (stands? (c .before .before .before)))
+returns c = gives-only (c .only .ensures) (by (c .before) (stands? (c .before .before .before)))
   where
     by : (c : tie.Then1) → let s = c .before .before in Dec (high (now (s .args .ends)) (s .args .first) ≡ 0) → Chosen (pricedAt (s .args .c)) (Within (now (s .args .ends)) (s .args .first) (s .args .last)) 0 0
     by c (yes z) = only-stands (c .before .before .pre) z (omega (arith, c .before .first-running .ensures .0 z, c .before .before .pre .regions .some))
@@ -55,10 +56,10 @@ choose-running-requires c κs = running c
 chosen-from : (c : tie.After-choose-running) → let s = c .before .before .before in (n : ℕ) → c .before .before .first-running .result ≡ n → Chosen (pricedAt (s .args .c)) (Within (now (s .args .ends)) n (s .args .last)) (c .choose-running .result .greatest) (c .choose-running .result .least)
 chosen-from c n e =
     let s = c .before .before .before in
-    subst (λ (n : ℕ). Chosen (pricedAt (s .args .c)) (Within (now (s .args .ends)) n (s .args .last)) (c .choose-running .result .greatest) (c .choose-running .result .least)) e (running-chosen (running (c .before)) (c .choose-running .ensures))
+    subst (λ (n : ℕ). Chosen (pricedAt (s .args .c)) (Within (now (s .args .ends)) n (s .args .last)) (c .choose-running .result .greatest) (c .choose-running .result .least)) e (running-chosen (running (c .before)) (c .choose-running .ensures .chosen))
 
 returns-2 : tie.Need-returns-2
-returns-2 c = chosen-from (c .before) _ (c .if2 .taken)
+returns-2 c = record { chosen = chosen-from (c .before) _ (c .if2 .taken); alone = c .before .choose-running .ensures .alone }
 
 -- ---- it may stand, and runs behind that region
 
@@ -97,9 +98,6 @@ module _ (c : tie.Else2) where
   standing-is : Is (pricedAt (s .args .c) 0) 0 0
   standing-is = is-same (priced-standing (s .args .c)) (is-pos 0)
 
-cast-p : tie.Need-cast-p
-cast-p c = omega (arith, output c)
-
 priced-cost-requires : tie.Need-priced-cost-requires
 priced-cost-requires c κs = (s c .pre .curve, output c)
 
@@ -118,7 +116,7 @@ returns-3 c =
     let d = c .before in
     let h = d .before in
     let e = h .before in
-    rw (c .only2 .ensures .0, c .only2 .ensures .1)
+    gives-only (c .only2 .ensures)
     (stands-better (s e .pre) (stands e) (more e) (chosen e)
     (under (standing-is e) (itself (pricedAt (s e .args .c) (p e))) (when-lt (is-pos 0) (is-same (running-read h) (itself _)) (d .if3 .taken))))
 
@@ -130,7 +128,7 @@ returns-4 c =
     let h = c .before .before .before in
     let e = h .before in
     let zero = zero-bits (h .priced-cost .result) (c .before .if4 .taken) in
-    rw (c .both .ensures .0, c .both .ensures .1)
+    gives-both (c .both .ensures)
     (stands-or-runs (s e .pre) (stands e) (more e) (chosen e) (same (is-same (sym (running-read h)) zero) (standing-is e) (omega arith)))
 
 returns-5 : tie.Need-returns-5
@@ -140,7 +138,7 @@ returns-5 c =
     let read = is-same (running-read h) (itself (pricedAt (s e .args .c) (p e))) in
     let not-above = when-ge (is-pos 0) read (c .before .if3 .left) in
     let not-zero = other-bits (is-same (priced-is h) (itself (pricedAt (s e .args .c) (p e)))) (c .if4 .left) in
-    runs-better (s e .pre) (stands e) (more e) (chosen e) (under (itself (pricedAt (s e .args .c) (p e))) (standing-is e) (omega arith))
+    record { chosen = runs-better (s e .pre) (stands e) (more e) (chosen e) (under (itself (pricedAt (s e .args .c) (p e))) (standing-is e) (omega arith)); alone = e .before .choose-running .ensures .alone }
 
 pub choose-spec : {M : Type 1} → statement M
 choose-spec =
@@ -151,7 +149,6 @@ choose-spec =
     returns
     choose-running-requires
     returns-2
-    cast-p
     priced-cost-requires
     only-requires-2
     returns-3

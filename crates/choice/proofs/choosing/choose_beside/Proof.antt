@@ -2,6 +2,7 @@
 use native.Mathlib.Omega.{arith}
 use Prim.Native.Nat.{_-_}
 use Rattle.choice.proofs.Regions.{alone, tied-pair, lowest-only, behind-first, before-small, behind-small, between-regions}
+use Rattle.choice.proofs.Giving.{gives-only, gives-both}
 use borrow.Author.Needs.{needs}
 use Rattle.choice.proofs.choosing.choose_beside.Statement.{statement}
 use Rattle.choice.proofs.choosing.choose_beside.Tie as tie
@@ -33,7 +34,7 @@ returns : tie.Need-returns
 returns c =
     let h = c .before .before in
     let s = h .before in
-    rw (c .both .ensures .0, c .both .ensures .1) (tied-pair (entry s .pre) (s .before .region-reaching .ensures) (h .if1 .taken) (c .before .if2 .taken))
+    gives-both (c .both .ensures) (tied-pair (entry s .pre) (s .before .region-reaching .ensures) (h .if1 .taken) (c .before .if2 .taken))
 
 only-requires : tie.Need-only-requires
 only-requires c κs = search needs
@@ -42,7 +43,7 @@ returns-2 : tie.Need-returns-2
 returns-2 c =
     let h = c .before .before in
     let s = h .before in
-    rw (c .only .ensures .0, c .only .ensures .1) (alone (entry s .pre) (s .before .region-reaching .ensures) (h .if1 .taken) (c .before .if2 .left))
+    gives-only (c .only .ensures) (alone (entry s .pre) (s .before .region-reaching .ensures) (h .if1 .taken) (c .before .if2 .left))
 
 -- ---- at its start, or before it
 
@@ -53,7 +54,7 @@ returns-3 : tie.Need-returns-3
 returns-3 c =
     let h = c .before .before in
     let s = h .before in
-    rw (c .only2 .ensures .0, c .only2 .ensures .1) (lowest-only (entry s .pre) (s .before .region-reaching .ensures) (h .if1 .left) (c .before .if3 .taken))
+    gives-only (c .only2 .ensures) (lowest-only (entry s .pre) (s .before .region-reaching .ensures) (h .if1 .left) (c .before .if3 .taken))
 
 mul-better : tie.Need-mul-better
 mul-better c = search needs
@@ -81,7 +82,7 @@ returns-4 c =
     let e = c .before .before in
     let h = e .before in
     let s = h .before in
-    rw (c .better .ensures .0, c .better .ensures .1) (between-regions (entry s .pre) (s .before .region-reaching .ensures) (h .if1 .left) (e .if3 .left))
+    record { chosen = rw (c .better .ensures .0, c .better .ensures .1) (between-regions (entry s .pre) (s .before .region-reaching .ensures) (h .if1 .left) (e .if3 .left)); alone = c .better .ensures .2 }
 
 pub choose-beside-spec : {M : Type 1} → statement M
 choose-beside-spec =

@@ -16,6 +16,7 @@ use Rattle.site.specs.Site.{low, high}
 use Rattle.choice.proofs.Signed.{is-quotient, is-remainder, zero-bits, other-bits}
 use Rattle.choice.proofs.Heights.{vertex-valley, vertex-from, vertex-to, vertex-level, vertex-falls}
 use Rattle.choice.proofs.Regions.{small, lowest, highest, past-highest, before-lowest, all-tied}
+use Rattle.choice.proofs.Giving.{gives-only, gives-both}
 use Rattle.choice.proofs.choosing.choose_running.Statement.{statement}
 use Rattle.choice.proofs.choosing.choose_running.Tie as tie
 
@@ -124,7 +125,7 @@ returns : tie.Need-returns
 returns c =
     let d = c .before in
     let b = entry (d .before) in
-    rw (c .only .ensures .0, c .only .ensures .1) (past-highest (b .pre) (omega (arith, when-lt (highest-read (d .before)) (over-read b) (d .if1 .taken))))
+    gives-only (c .only .ensures) (past-highest (b .pre) (omega (arith, when-lt (highest-read (d .before)) (over-read b) (d .if1 .taken))))
 
 wide-requires-2 : tie.Need-wide-requires-2
 wide-requires-2 c κs = search needs
@@ -142,7 +143,7 @@ returns-2 : tie.Need-returns-2
 returns-2 c =
     let d = c .before in
     let b = entry-2 (d .before) in
-    rw (c .only2 .ensures .0, c .only2 .ensures .1) (before-lowest (b .pre) (omega (arith, when-lt (over-read b) (lowest-read (d .before)) (d .if2 .taken))))
+    gives-only (c .only2 .ensures) (before-lowest (b .pre) (omega (arith, when-lt (over-read b) (lowest-read (d .before)) (d .if2 .taken))))
 
 -- ---- the vertex between them
 
@@ -166,7 +167,7 @@ returns-3 : tie.Need-returns-3
 returns-3 c =
     let d = c .before .before in
     let none : a (b d) ≡ 0 = omega (arith, c .before .if3 .taken) in
-    rw (c .both .ensures .0, c .both .ensures .1)
+    gives-both (c .both .ensures)
     (all-tied (b d .pre) none (omega (arith, below-highest d, above-lowest d, ap (λ (n : ℕ). n * highest-is (b d)) none, ap (λ (n : ℕ). n * lowest-is (b d)) none)))
 
 module _ (c : tie.Else3) where

@@ -1,5 +1,6 @@
 -- `pricing::totals::evaluate` meets its contract: the loop keeps what `Allocating` says of the choices.
 use Prim.Native.Nat.{ℕ, _+_, _-_, _<_, _≤_}
+use mathlib.Core.Bool.{Bool, true, false, cond}
 use mathlib.Core.Path.{_≡_, refl}
 use native.Mathlib.Omega.{arith}
 use lib.ListN.{length, getD, length-set}
@@ -11,18 +12,19 @@ use Rattle.site.specs.Site.{noOffer, HoldsOffer, HoldsProblem}
 use Rattle.pricing.specs.Totals.{Held, Sized}
 use Rattle.choice.proofs.Regions.{small}
 use Rattle.pricing.proofs.Offers.{choosable, choice-held}
-use Rattle.pricing.proofs.Allocating.{Allocating, allocating-starts, offered, sized-more, allocating-more, allocating-ends, Filling, filling-starts, filling-more, filling-ends, Spread, spread-starts, spread-more}
+use Rattle.pricing.proofs.Allocating.{Allocating, allocating-starts, offered, sized-more, allocating-more, allocating-ends, Filling, filling-starts, filling-more, filling-ends, Ties, ties-start, ties-more}
+use borrow.Author.Needs.{needs}
 use Rattle.pricing.proofs.totals.evaluate.Statement.{statement}
 use Rattle.pricing.proofs.totals.evaluate.Tie as tie
 
 abbrev Inv-loop : tie.InvT-loop
-Inv-loop coefficients ends ranges n m outputs₀ least₀ cost₀ net₀ spread₀ i₀ outputs least cost net spread i = (length outputs ≡ length outputs₀) × Allocating (choice m) coefficients ends ranges n outputs cost net i × (length least ≡ length least₀) × Filling (leastTied m) coefficients ends ranges n least i × Spread outputs least spread i
+Inv-loop coefficients ends ranges n m outputs₀ least₀ cost₀ net₀ ties₀ i₀ outputs least cost net ties i = (length outputs ≡ length outputs₀) × Allocating (choice m) coefficients ends ranges n outputs cost net i × (length least ≡ length least₀) × Filling (leastTied m) coefficients ends ranges n least i × Ties outputs least ties i
 
 abbrev μ-loop : tie.MeasureT-loop
-μ-loop coefficients ends ranges n m outputs₀ least₀ cost₀ net₀ spread₀ i₀ outputs least cost net spread i = n - i
+μ-loop coefficients ends ranges n m outputs₀ least₀ cost₀ net₀ ties₀ i₀ outputs least cost net ties i = n - i
 
 loop-holds : tie.Need-loop-holds Inv-loop μ-loop
-loop-holds c = let b = c .before .before in (refl, allocating-starts (choice (b .args .m)) (b .pre .0 .held) (b .pre .1), refl, filling-starts (leastTied (b .args .m)) (b .pre .2), spread-starts _ _)
+loop-holds c = let b = c .before .before in (refl, allocating-starts (choice (b .args .m)) (b .pre .0 .held) (b .pre .1), refl, filling-starts (leastTied (b .args .m)) (b .pre .2), ties-start _ _)
 
 -- ---- unit i
 
@@ -81,18 +83,15 @@ module _ (c : tie.After-choose Inv-loop μ-loop) where
   r = c .choose .result .greatest
 
   output : r ≤ 10000
-  output = small (unit t .regions) r (c .choose .ensures .candidate)
+  output = small (unit t .regions) r (c .choose .ensures .chosen .candidate)
 
   abbrev l : ℕ
   l = c .choose .result .least
 
-  below : l ≤ r
-  below = let d = c .choose .ensures in d .first r (d .candidate) refl
-
   both : (q : Problem) → HoldsProblem (now (s t .args .coefficients)) (now (s t .args .ends)) (now (s t .args .ranges)) (s t .args .n) q → let o = getD (q .offers) (i t) noOffer in (r ≡ choice (s t .args .m) o) × (l ≡ leastTied (s t .args .m) o)
   both q h =
       let o = h .offers (i t) (t .loop-test .taken) in
-      choice-held o (c .before .curve-of .ensures .1 _ (o .unit)) (c .choose .ensures)
+      choice-held o (c .before .curve-of .ensures .1 _ (o .unit)) (c .choose .ensures .chosen)
 
   picked : (q : Problem) → HoldsProblem (now (s t .args .coefficients)) (now (s t .args .ends)) (now (s t .args .ranges)) (s t .args .n) q → r ≡ choice (s t .args .m) (getD (q .offers) (i t) noOffer)
   picked q h = both q h .0
@@ -100,17 +99,11 @@ module _ (c : tie.After-choose Inv-loop μ-loop) where
   picked-least : (q : Problem) → HoldsProblem (now (s t .args .coefficients)) (now (s t .args .ends)) (now (s t .args .ranges)) (s t .args .n) q → l ≡ leastTied (s t .args .m) (getD (q .offers) (i t) noOffer)
   picked-least q h = both q h .1
 
-cast-p : tie.Need-cast-p Inv-loop μ-loop
-cast-p c = omega (arith, output c)
-
 mul-outputs : tie.Need-mul-outputs Inv-loop μ-loop
 mul-outputs c = omega (arith, few (t c))
 
 slice-write-outputs : tie.Need-slice-write-outputs Inv-loop μ-loop
 slice-write-outputs c = omega (arith, t c .before .loop .inv .1 .room, t c .loop-test .taken)
-
-cast-least : tie.Need-cast-least Inv-loop μ-loop
-cast-least c = omega (arith, below c, output c)
 
 mul-least : tie.Need-mul-least Inv-loop μ-loop
 mul-least c = omega (arith, few (t c))
@@ -118,45 +111,52 @@ mul-least c = omega (arith, few (t c))
 slice-write-least : tie.Need-slice-write-least Inv-loop μ-loop
 slice-write-least c = omega (arith, t c .before .loop .inv .3 .room, t c .loop-test .taken)
 
-sub-spread : tie.Need-sub-spread Inv-loop μ-loop
-sub-spread c = omega (arith, below c)
+count-requires : tie.Need-count-requires Inv-loop μ-loop
+count-requires c κs = search needs
 
-add-spread : tie.Need-add-spread Inv-loop μ-loop
-add-spread c = omega (arith, t c .before .loop .inv .4 .small, output c, few (t c))
+-- ---- counted
+
+add-ties : tie.Need-add-ties Inv-loop μ-loop
+add-ties c = let d = c .before in rw (c .count .ensures) (omega (arith, t d .before .loop .inv .4 .small, few (t d), counted (d .choose .result .tied)))
+  where
+    counted : (b : Bool) → cond b 1 0 ≤ 1
+    counted true = omega arith
+    counted false = omega arith
 
 cost-of-requires : tie.Need-cost-of-requires Inv-loop μ-loop
-cost-of-requires c κs = record { few = few (t c); output = output c; unit = _; holds = unit (t c) .unit }
+cost-of-requires c κs = let d = c .before in record { few = few (t d); output = output d; unit = _; holds = unit (t d) .unit }
 
 net-of-requires : tie.Need-net-of-requires Inv-loop μ-loop
-net-of-requires c κs = let d = c .before in record { few = few (t d); output = output d; unit = _; holds = unit (t d) .unit }
+net-of-requires c κs = let d = c .before .before in record { few = few (t d); output = output d; unit = _; holds = unit (t d) .unit }
 
 -- ---- with its cost and net
 
-next : (c : tie.After-net-of Inv-loop μ-loop) → let d = c .before .before in let l = t d .before .loop in Sized (l .i + 1) (record { cost = l .cost + c .before .cost-of .result; net = l .net + c .net-of .result })
+next : (c : tie.After-net-of Inv-loop μ-loop) → let d = c .before .before .before in let l = t d .before .loop in Sized (l .i + 1) (record { cost = l .cost + c .before .cost-of .result; net = l .net + c .net-of .result })
 next c =
-    let d = c .before .before in
+    let d = c .before .before .before in
     sized-more (choice (s (t d) .args .m)) (g (t d)) (t d .before .loop .inv .1) (t d .loop-test .taken) (output d) (picked d) (c .before .cost-of .ensures) (c .net-of .ensures)
 
 add-cost : tie.Need-add-cost Inv-loop μ-loop
-add-cost c = let d = c .before in let u = unit (t d) .unit in omega (arith, t d .before .loop .inv .1 .sized .cost, few (t d), c .cost-of .ensures _ u, cost-range (u .sound) (output d))
+add-cost c = let d = c .before .before in let u = unit (t d) .unit in omega (arith, t d .before .loop .inv .1 .sized .cost, few (t d), c .cost-of .ensures _ u, cost-range (u .sound) (output d))
 
 add-net : tie.Need-add-net Inv-loop μ-loop
-add-net c = omega (arith, next c .net, few (t (c .before .before)))
+add-net c = omega (arith, next c .net, few (t (c .before .before .before)))
 
 add-i : tie.Need-add-i Inv-loop μ-loop
-add-i c = omega (arith, few (t (c .before .before)))
+add-i c = omega (arith, few (t (c .before .before .before)))
 
 loop-less : tie.Need-loop-less Inv-loop μ-loop
 loop-less c = omega arith
 
 loop-again : tie.Need-loop-again Inv-loop μ-loop
 loop-again c =
-    let d = c .before .before in (
+    let d = c .before .before .before in (
       simp length-set (t d .before .loop .inv .0),
       allocating-more (choice (s (t d) .args .m)) (g (t d)) (t d .before .loop .inv .1) (t d .loop-test .taken) (output d) (picked d) (c .before .cost-of .ensures) (c .net-of .ensures),
       simp length-set (t d .before .loop .inv .2),
       filling-more (leastTied (s (t d) .args .m)) (t d .before .loop .inv .3) (t d .loop-test .taken) (picked-least d),
-      spread-more (t d .before .loop .inv .4) (omega (arith, t d .before .loop .inv .1 .room, t d .loop-test .taken)) (omega (arith, t d .before .loop .inv .3 .room, t d .loop-test .taken)) (output d) (below d),
+      rw (c .before .before .count .ensures)
+          (ties-more (t d .before .loop .inv .4) (omega (arith, t d .before .loop .inv .1 .room, t d .loop-test .taken)) (omega (arith, t d .before .loop .inv .3 .room, t d .loop-test .taken)) (d .choose .result .tied) (d .choose .ensures .alone)),
     )
 
 same-length : tie.Need-same-length Inv-loop μ-loop
@@ -192,14 +192,12 @@ evaluate-spec =
     cast-last
     curve-of-requires
     choose-requires
-    cast-p
     mul-outputs
     slice-write-outputs
-    cast-least
     mul-least
     slice-write-least
-    sub-spread
-    add-spread
+    count-requires
+    add-ties
     cost-of-requires
     add-cost
     net-of-requires
