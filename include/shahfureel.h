@@ -50,7 +50,8 @@
  *   - a refusal leaves every lent buffer as it was;
  *   - otherwise only the start of an output buffer is written, as far as the call says; the rest is untouched;
  *   - it keeps nothing between calls and allocates nothing. Several threads may call at once, also on the same input, each with
- *     output buffers of its own. It takes about 3 kB of stack at most (seen, not proved).
+ *     output buffers of its own. It takes less than 4 kB of stack; in a dynamically linked program 6 kB at the first call, when
+ *     the loader looks up memset (seen, not proved).
  * What the caller must ensure (nothing in C can check it):
  *   - each pointer is valid for its length or room, and lists of numbers are aligned for their type;
  *   - LENGTHS AND ROOM OF LISTS COUNT NUMBERS, NOT BYTES: rows_length, rows_room, outputs_length, demands_length, floors_room,
