@@ -1,19 +1,23 @@
 -- What the search holds: for every problem that the arrays of a site hold, the best allocation, the greatest floor and the number of the evaluations that the steps of rules 11.3 to 11.11 make; and a trace of these, each multiplier with its dual value (rule 20.3).
-use Prim.Native.Nat.{ℕ, _+_, _*_, _≤_}
+use Prim.Native.Nat.{ℕ, _+_, _*_, _^_, _≤_}
 use mathlib.Core.Path.{_≡_}
 use mathlib.Core.Bool.{cond}
 use mathlib.Core.List.{List, [], _∷_}
+use mathlib.Core.Logic.{_⊎_}
 use lib.Dec.{ltb}
 use lib.IntN.{ℤ, pos}
-use lib.ListN.{length, getD, set}
+use lib.ListN.{length, getD, drop, replicate, set}
+use lib.Signed.{leZ}
 use Rattle.rules.specs.Problem.{Problem, unitsOf, totalNet, target}
-use Rattle.rules.specs.Choice.{selected, dualValue, greatestFloor}
-use Rattle.rules.specs.Bisection.{Found, step4, greatestOutputs, found}
+use Rattle.rules.specs.Choice.{selected, dualValue, floor, greatestFloor}
+use Rattle.rules.specs.Bisection.{Found, greatestOutputs, found}
 use Rattle.site.specs.Site.{HoldsProblem}
 use Rattle.pricing.specs.declared.Sums.{Sums}
 use Rattle.pricing.specs.Totals.{HoldsOutputs, Sized}
 use Rattle.bisection.specs.declared.steps.Allocation as code-allocation
 use Rattle.bisection.specs.declared.steps.Found as code
+use Rattle.bisection.specs.declared.steps.SearchState as code-state
+use Rattle.rules.specs.Stages.{Stage, atZero, atTop, halving, finished, Standing, onward}
 
 -- the arrays hold the problem q, and t is the net that covers its demand
 pub record Holding (coefficients ends ranges : List ℕ) (n t : ℕ) (q : Problem) : Type 0 where
@@ -38,11 +42,12 @@ pub record Selected : Type 0 where
 abbrev pub allocated : List ℕ → Selected → code-allocation.Allocation
 allocated outputs s = record { outputs = outputs; cost = s .cost; net = s .net }
 
--- an evaluation of m took these outputs
+-- an evaluation of m took these outputs; behind them are zeros
 pub record Selects (H : Problem → Type 0) (n m : ℕ) (outputs : List ℕ) (s : Selected) : Type 0 where
   pub sized : Sized n (sumsOf (allocated outputs s))
   pub taken : (q : Problem) → H q → HoldsOutputs q (selected m q) outputs (sumsOf (allocated outputs s))
   pub dual : (q : Problem) → H q → s .dual ≡ dualValue m q
+  pub beyond : drop n outputs ≡ drop n (replicate 32 0)
 
 -- f holds what a search found: its best allocation and, of the multipliers that it evaluated, the greatest floor and the number
 pub record HoldsFound (q : Problem) (g : Found (List ℕ)) (f : code.Found) : Type 0 where
@@ -72,19 +77,56 @@ pub record HoldsTraced (q : Problem) (g : Found (List ℕ)) (f : code.Found) (tr
   pub found : HoldsFound q g f
   pub traced : 36 ≤ length trace → Traces q (g .evaluated) trace
 
--- after the evaluations of 0 and 65,536
-pub record Started (n : ℕ) (start : code.Found) : Type 0 where
-  pub sized : Sized n (sumsOf (start .best))
-  pub evaluations : start .evaluations ≡ 2
+-- ---- a search from where it stands
 
--- step 4 of a problem, from its start
-abbrev pub halved : Problem → List ℕ → Found (List ℕ)
-halved q b = step4 (λ m. selected m q) (totalNet (unitsOf q)) (target q) 16 0 b (65536 ∷ 0 ∷ [])
+-- the numbers of a stage, after e evaluations: the next one is of low + width, the first of 131,072, which counts as 0; a finished search has width 0
+abbrev pub At : Stage → ℕ → ℕ → ℕ → Type 0
+At atZero low width e = (low ≡ 0) × (width ≡ 131072) × (e ≡ 0)
+At atTop low width e = (low ≡ 0) × (width ≡ 65536) × (e ≡ 1)
+At (halving k l) low width e = (low ≡ l) × (width ≡ 2 ^ k) × (e + k ≡ 17) × (low + 2 * width ≤ 65536)
+At finished low width e = (width ≡ 0) × (e ≤ 18)
 
-pub record Halves (H : Problem → Type 0) (n : ℕ) (start : code.Found) (before : List ℤ) (r : code.Found) (after : List ℤ) : Type 0 where
-  pub sized : Sized n (sumsOf (r .best))
-  pub few : r .evaluations ≤ 18
-  pub held : (q : Problem) → H q → (b : List ℕ) → HoldsTraced q (record { best = b; evaluated = 65536 ∷ 0 ∷ [] }) start before → HoldsTraced q (halved q b) r after
+-- it may be gone on from
+pub record Begun (start : code-state.SearchState) : Type 0 where
+  pub stage : Stage
+  pub numbers : At stage (start .low) (start .width) (start .evaluations)
+
+-- the greatest of z and the floors of some multipliers
+abbrev pub raisedFloor : Problem → ℤ → List ℕ → ℤ
+raisedFloor q z [] = z
+raisedFloor q z (m ∷ ms) = cond (leZ (floor m q) (raisedFloor q z ms)) (raisedFloor q z ms) (floor m q)
+
+abbrev pub onwardOf : Problem → ℕ → Standing (List ℕ) → Standing (List ℕ)
+onwardOf q = onward (λ m. selected m q) (totalNet (unitsOf q)) (target q)
+
+-- the best x, which a holds, is x₀ and a₀ untouched, in all places, or what an evaluation took, behind that zeros
+abbrev pub HoldsBest : Problem → ℕ → List ℕ → code-allocation.Allocation → List ℕ → code-allocation.Allocation → Type 0
+HoldsBest q n x₀ a₀ x a = ((x ≡ x₀) × (a ≡ a₀)) ⊎ (HoldsOutputs q x (a .outputs) (sumsOf a) × (drop n (a .outputs) ≡ drop n (replicate 32 0)))
+
+-- from s, which `start` and `before` hold, to g, which f and `trace` hold
+pub record HoldsStanding (q : Problem) (n : ℕ) (s : Standing (List ℕ)) (start : code-state.SearchState) (before : List ℤ) (stage : Stage) (g : Standing (List ℕ)) (f : code-state.SearchState) (trace : List ℤ) : Type 0 where
+  pub best : HoldsBest q n (s .best) (start .best) (g .best) (f .best)
+  pub floor : (z : ℤ) → start .floor ≡ raisedFloor q z (s .evaluated) → f .floor ≡ raisedFloor q z (g .evaluated)
+  pub evaluations : start .evaluations ≡ length (s .evaluated) → f .evaluations ≡ length (g .evaluated)
+  pub traced : 36 ≤ length trace → start .evaluations ≡ length (s .evaluated) → Traces q (s .evaluated) before → Traces q (g .evaluated) trace
+  pub staged : g .stage ≡ stage
+
+-- after so many evaluations from `start`
+pub record Reached (H : Problem → Type 0) (n : ℕ) (start : code-state.SearchState) (before : List ℤ) (f : code-state.SearchState) (trace : List ℤ) : Type 0 where
+  pub stage : Stage
+  pub rounds : ℕ
+  pub numbers : At stage (f .low) (f .width) (f .evaluations)
+  pub counted : f .evaluations ≡ start .evaluations + rounds
+  pub most : f .most ≡ start .most
+  pub sized : (k : ℕ) → n ≤ k → Sized k (sumsOf (start .best)) → Sized k (sumsOf (f .best))
+  pub held : (q : Problem) → H q → (s : Standing (List ℕ)) → At (s .stage) (start .low) (start .width) (start .evaluations) → HoldsStanding q n s start before stage (onwardOf q rounds s) f trace
+
+-- until it is finished, or has made as many evaluations as it may
+pub record SearchesFrom (H : Problem → Type 0) (n : ℕ) (start : code-state.SearchState) (before : List ℤ) (r : code-state.SearchState) (trace : List ℤ) : Type 0 where
+  pub reached : Reached H n start before r trace
+  pub ended : (r .width ≡ 0) ⊎ (r .evaluations ≡ start .most)
+  pub few : start .evaluations ≤ start .most → r .evaluations ≤ start .most
+  pub low : r .width ≡ 0 → r .low ≡ 0
 
 -- steps 2 to 4 of a problem, from the greatest outputs
 pub record Searches (H : Problem → Type 0) (n : ℕ) (first : code-allocation.Allocation) (r : code.Found) (trace : List ℤ) : Type 0 where

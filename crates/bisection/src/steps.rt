@@ -4,7 +4,7 @@ ghost use mathlib.Core.Bool.{cond};
 ghost use Prim.Native.Nat.{_≤_};
 ghost use lib.Signed.{leZ};
 ghost use Rattle.pricing.specs.Totals.{Sized};
-ghost use Rattle.bisection.specs.Search.{Holding, Searchable, sumsOf, recorded, Started, Halves, Searches};
+ghost use Rattle.bisection.specs.Search.{Holding, Searchable, sumsOf, recorded, Begun, SearchesFrom, Searches};
 use crate::lowering::lower;
 use pricing::Evaluated;
 use pricing::Sums;
@@ -42,66 +42,116 @@ fn note(trace: &mut [i64], k: u16, m: u64, dual: i64)
     }
 }
 
-// Step 4: halves from 0 and 65,536, where `start` is what the evaluations of these found. The ends are `low` and `low` + `width`.
-// What is evaluated is noted in the trace.
-fn halve(
+// Where a search stands between two evaluations. The next one is of `low` + `width`, modulo 131,072: the first width is 131,072, so
+// the first multiplier is 0. A finished search has width 0. It may make `most` evaluations in all.
+pub struct SearchState {
+    pub best: Allocation,
+    pub floor: i64,
+    pub evaluations: u16,
+    pub low: u64,
+    pub width: u64,
+    pub most: u16,
+}
+
+// Steps 2 to 4 from where a search stands, until it is finished or has made `most` evaluations: each halves the width first, and a
+// multiplier that does not cover becomes the low end. What is evaluated is noted in the trace.
+pub fn search_from(
     coefficients: &[u64; 160],
     ends: &[u16; 384],
     ranges: &[u8; 64],
     n: usize,
     target: u64,
-    start: Found,
+    start: SearchState,
     trace: &mut [i64],
-) -> Found
-    requires { ⌜ Searchable (now coefficients) (now ends) (now ranges) n target × Started n start ⌝ }
-    ensures { λ r. ⌜ Halves (Holding (now (coefficients .entry)) (now (ends .entry)) (now (ranges .entry)) n target) n start (now (trace .entry)) r (now (trace .exit)) ⌝ }
+) -> SearchState
+    requires { ⌜ Searchable (now coefficients) (now ends) (now ranges) n target × Begun start ⌝ }
+    ensures { λ r. ⌜ SearchesFrom (Holding (now (coefficients .entry)) (now (ends .entry)) (now (ranges .entry)) n target) n start (now (trace .entry)) r (now (trace .exit)) ⌝ }
 {
-    let mut best = start.best;
-    let mut floor = start.floor;
-    let mut evaluations = start.evaluations;
+    let SearchState {
+        mut best,
+        mut floor,
+        mut evaluations,
+        mut low,
+        mut width,
+        most,
+    } = start;
     let mut outputs = [0u16; 32];
     let mut least = [0u16; 32];
-    let mut low: u64 = 0;
-    let mut width: u64 = 65536;
-    let found = loop {
-        if width == 1 {
-            break Found {
+    let reached = loop {
+        if width == 0 {
+            break SearchState {
                 best,
                 floor,
                 evaluations,
+                low: 0,
+                width: 0,
+                most,
             };
         }
+        if evaluations == most {
+            break SearchState {
+                best,
+                floor,
+                evaluations,
+                low,
+                width,
+                most,
+            };
+        }
+        let m = (low + width) % 131072;
         width = width / 2;
-        let middle = low + width;
         let Evaluated { cost, net, ties } = pricing::evaluate(
             coefficients,
             ends,
             ranges,
             n,
-            middle,
+            m,
             &mut outputs,
             &mut least,
         );
         let s = Sums { cost, net };
-        let dual = pricing::dual_of(s, target, middle);
-        note(trace, evaluations, middle, dual);
+        let dual = pricing::dual_of(s, target, m);
+        note(trace, evaluations, m, dual);
         floor = greater(pricing::floor_of(dual), floor);
         evaluations += 1;
         if net >= target {
             let Sums { cost, net } = lower(coefficients, n, target, s, ties, &least, &mut outputs);
-            if net == target {
-                break Found {
-                    best: Allocation { outputs, cost, net },
+            best = Allocation { outputs, cost, net };
+            if m == 0 {
+                break SearchState {
+                    best,
                     floor,
                     evaluations,
+                    low: 0,
+                    width: 0,
+                    most,
                 };
             }
-            best = Allocation { outputs, cost, net };
+            if net == target {
+                break SearchState {
+                    best,
+                    floor,
+                    evaluations,
+                    low: 0,
+                    width: 0,
+                    most,
+                };
+            }
         } else {
-            low = middle;
+            if m == 65536 {
+                break SearchState {
+                    best,
+                    floor,
+                    evaluations,
+                    low: 0,
+                    width: 0,
+                    most,
+                };
+            }
+            low = m;
         }
     };
-    found
+    reached
 }
 
 // Steps 2 to 4: `first` are the greatest outputs, which step 1 found to cover. Each evaluation is noted in the trace: one of 36
@@ -118,57 +168,23 @@ pub fn search(
     requires { ⌜ Searchable (now coefficients) (now ends) (now ranges) n target × Sized n (sumsOf first) ⌝ }
     ensures { λ r. ⌜ Searches (Holding (now (coefficients .entry)) (now (ends .entry)) (now (ranges .entry)) n target) n first r (now (trace .exit)) ⌝ }
 {
-    let mut outputs = [0u16; 32];
-    let mut least = [0u16; 32];
-    let Evaluated { cost, net, ties } = pricing::evaluate(
-        coefficients,
-        ends,
-        ranges,
-        n,
-        0,
-        &mut outputs,
-        &mut least,
-    );
-    let s = Sums { cost, net };
-    let dual = pricing::dual_of(s, target, 0);
-    note(trace, 0, 0, dual);
-    let floor = pricing::floor_of(dual);
-    if net >= target {
-        let Sums { cost, net } = lower(coefficients, n, target, s, ties, &least, &mut outputs);
-        return Found {
-            best: Allocation { outputs, cost, net },
-            floor,
-            evaluations: 1,
-        };
-    }
-    let Evaluated { cost, net, ties } = pricing::evaluate(
-        coefficients,
-        ends,
-        ranges,
-        n,
-        65536,
-        &mut outputs,
-        &mut least,
-    );
-    let s = Sums { cost, net };
-    let dual = pricing::dual_of(s, target, 65536);
-    note(trace, 1, 65536, dual);
-    let floor = greater(pricing::floor_of(dual), floor);
-    if net < target {
-        return Found {
-            best: first,
-            floor,
-            evaluations: 2,
-        };
-    }
-    let Sums { cost, net } = lower(coefficients, n, target, s, ties, &least, &mut outputs);
-    let covering = Found {
-        best: Allocation { outputs, cost, net },
-        floor,
-        evaluations: 2,
+    let start = SearchState {
+        best: first,
+        floor: 0,
+        evaluations: 0,
+        low: 0,
+        width: 131072,
+        most: 18,
     };
-    if net == target {
-        return covering;
+    let SearchState {
+        best,
+        floor,
+        evaluations,
+        ..
+    } = search_from(coefficients, ends, ranges, n, target, start, trace);
+    Found {
+        best,
+        floor,
+        evaluations,
     }
-    halve(coefficients, ends, ranges, n, target, covering, trace)
 }

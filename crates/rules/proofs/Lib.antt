@@ -2,8 +2,10 @@ pub mod Lists
 pub mod Verdicts
 pub mod Each
 pub mod Sound
+pub mod Zones
 pub mod Encoding
 pub mod Economics
+pub mod Regions
 pub mod Obeyed
 pub mod Rising
 pub mod Demand3

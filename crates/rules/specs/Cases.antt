@@ -1,7 +1,7 @@
 -- The example cases: what a call is, and what it answers under the rules. The files, rows and units that the tables (`Table`, `TableOfRefusals`, `TableOfEditions`, `TableOfLowering`) put to the calls are in `CaseFiles`.
 use Prim.Native.Nat.{ℕ, _+_, _*_}
 use mathlib.Core.Bool.{Bool}
-use mathlib.Core.List.{List, []}
+use mathlib.Core.List.{List, [], _∷_}
 use lib.IntN.{ℤ}
 use lib.ListN.{length, replicate}
 use Rattle.fields.specs.Field.{numberAfter, signed, bytes, bytesOfEach}
@@ -10,6 +10,7 @@ use Rattle.rules.specs.Numbers.{total, dividedUp, greatestAt, natural}
 use Rattle.rules.specs.Unit.{Unit, zones, permitted, cost, linearFactor, net}
 use Rattle.rules.specs.Layout.{edgeOfBody, unitOfBody, bodyOfUnit, caseOf, contentsFrom, bodiesOf, fileOf, unitOfRow, rowOfUnit, unitsOfRows, rowsOfUnits}
 use Rattle.rules.specs.Refusal.{editionVerdict, headVerdict, contentsVerdict, zonesAscend, unitVerdict, bodyVerdict, fileVerdict, numberOf, numberOfVerdict}
+use Rattle.rules.specs.Regions.{Region, intervals, regions}
 use Rattle.rules.specs.Problem.{allocation, totalCost, totalNet, Offer, offer, problemOf}
 use Rattle.rules.specs.Choice.{pricedCost, preferredFrom, preferred, choices, lowered, selected, dualValue, floor}
 use Rattle.rules.specs.Bisection.{Found, Reply, step4, step3, search, greatestOutputs, solvable, found, replyOf, solve}
@@ -41,6 +42,8 @@ pub data Call : Type 0 where
   searchFor : ℕ → Call
   -- the reply to a demand and offers
   solveOffers : ℕ → List Offer → Call
+  -- the regions of a unit
+  divide : Unit → Call
 
 pub data Answer : Type 0 where
   writes : ℕ → List ℕ → Answer
@@ -56,6 +59,8 @@ pub data Answer : Type 0 where
   finds : ℕ → List ℕ → Answer
   -- outputs, cost, gap, evaluations, surplus
   solves : List ℕ → ℕ → ℕ → ℕ → ℕ → Answer
+  -- the ends of each region
+  divides : List ℕ → Answer
 
 abbrev pub buffer : List ℕ
 buffer = replicate 92 255
@@ -82,9 +87,13 @@ ofSearch f = finds (f .best) (f .evaluated)
 abbrev pub ofSolution : Reply → Answer
 ofSolution r = solves (r .outputs) (r .cost) (r .gap) (r .evaluations) (r .surplus)
 
+abbrev pub endsOf : List Region → List ℕ
+endsOf [] = []
+endsOf (r ∷ rs) = r .low ∷ r .high ∷ endsOf rs
+
 -- what the rules give
 unfoldable pub answer : Call → Answer
-unfolding numberAfter signed bytes bytesOfEach zones edgeOfBody unitOfBody bodyOfUnit caseOf contentsFrom bodiesOf fileOf editionVerdict headVerdict contentsVerdict zonesAscend unitVerdict bodyVerdict fileVerdict permitted cost linearFactor net totalCost totalNet offer problemOf pricedCost preferredFrom preferred total choices lowered selected dualValue dividedUp floor greatestAt step4 step3 search greatestOutputs solvable found natural replyOf solve replyBytes caseVerdict dispatchVerdict dispatchEnds dispatched priceVerdict priceEnds priced unitOfRow unitsOfRows packVerdict packEnds packed rowOfUnit rowsOfUnits unpackVerdict unpackEnds unpacked panelDispatched panelPriced panelPacked panelUnpacked allocation
+unfolding numberAfter signed bytes bytesOfEach zones edgeOfBody unitOfBody bodyOfUnit caseOf contentsFrom bodiesOf fileOf editionVerdict headVerdict contentsVerdict zonesAscend unitVerdict bodyVerdict fileVerdict permitted cost linearFactor net totalCost totalNet offer problemOf pricedCost preferredFrom preferred total choices lowered selected dualValue dividedUp floor greatestAt step4 step3 search greatestOutputs solvable found natural replyOf solve replyBytes caseVerdict dispatchVerdict dispatchEnds dispatched priceVerdict priceEnds priced unitOfRow unitsOfRows packVerdict packEnds packed rowOfUnit rowsOfUnits unpackVerdict unpackEnds unpacked panelDispatched panelPriced panelPacked panelUnpacked allocation intervals regions
 answer (dispatch file) = let r = dispatched file buffer in ofDispatch (r .answer) (r .reply)
 answer (price file m) = ofPricing (priced file m)
 answer (pack d rows) = let r = packed d rows buffer in ofPacking (r .answer) (r .file)
@@ -99,6 +108,7 @@ answer (panelUnpack file rows answers) = let r = panelUnpacked file rows answers
 answer (allocate us ps) = allocates (allocation us ps)
 answer (searchFor target) = ofSearch (search (λ m. m) (λ x. 2 * x) target 70000)
 answer (solveOffers d offers) = ofSolution (solve (record { demand = d; offers = offers }))
+answer (divide u) = divides (endsOf (regions u))
 
 pub record Row : Type 0 where
   pub call : Call

@@ -3,9 +3,11 @@ pub mod Numbers
 pub mod Unit
 pub mod Layout
 pub mod Refusal
+pub mod Regions
 pub mod Problem
 pub mod Choice
 pub mod Bisection
+pub mod Stages
 pub mod Calls
 pub mod Undoing
 pub mod Losses

@@ -1,5 +1,5 @@
 -- Rules 17.1 and 17.3 of docs/SPECIFICATION.md: the example cases and both pricings as one table, `table`, from the file's bytes to the reply's, and one theorem.
--- The other lists tell apart rules which that table does not: `further` (dispatches, pricings, packings, unpackings), `standing` (what a unit costs that stands), `panelForms` (the calls as C sees them), `searches` (steps 2 to 4 by themselves). Above each of their rows stands the wrong rule that it shows.
+-- The other lists tell apart rules which that table does not: `further` (dispatches, pricings, packings, unpackings), `standing` (what a unit costs that stands), `panelForms` (the calls as C sees them), `searches` (steps 2 to 4 by themselves), `divisions` (the regions of a unit). Above each of their rows stands the wrong rule that it shows.
 use Prim.Native.Nat.{_+_}
 use mathlib.Core.Bool.{true, false}
 use mathlib.Core.List.{List, [], _∷_, _++_, map}
@@ -8,7 +8,7 @@ use lib.IntN.{pos, negℤ}
 use lib.ListN.{replicate, drop}
 use Rattle.rules.specs.Lists.{each, over}
 use Rattle.rules.specs.Layout.{fileOf, unitOfRow}
-use Rattle.rules.specs.Cases.{Row, answer, buffer, reply, dispatch, price, pack, check, dispatchInto, packInto, unpackInto, panelDispatch, panelPrice, panelPack, panelUnpack, allocate, searchFor, solveOffers, writes, refuses, values, checks, reads, returns, allocates, finds, solves}
+use Rattle.rules.specs.Cases.{Row, answer, buffer, reply, dispatch, price, pack, check, dispatchInto, packInto, unpackInto, panelDispatch, panelPrice, panelPack, panelUnpack, allocate, searchFor, solveOffers, divide, writes, refuses, values, checks, reads, returns, allocates, finds, solves, divides}
 use Rattle.rules.specs.CaseFiles.{u5, u5Reply, site, siteReply, u10Reply, rowOfU, rowsOfSite, put, shortHead, otherEdition, noUnit, demandAbove, byteTooMany, noZone, linearCostAbove, edgeAtLeast, otherMark, largestLosses, rowsBuffer, answers, unit, U, lossy, priced-at, marked, zoned, costing}
 
 unfoldable pub table : List Row
@@ -173,6 +173,22 @@ searches =
     ∷ record { call = solveOffers 5000 (largestLosses ∷ []); result = solves (10000 ∷ []) 200000000000 59982892 2 0 }
     ∷ []
 
+unfoldable pub divisions : List Row
+divisions =
+    -- 0 left out or put behind the running intervals, or a zone offered
+    record { call = divide U; result = divides (0 ∷ 0 ∷ 2 ∷ 4 ∷ 7 ∷ 10 ∷ []) }
+    -- a zone that has no output strictly inside is no border
+    ∷ record { call = divide (zoned 4 5); result = divides (0 ∷ 0 ∷ 2 ∷ 4 ∷ 5 ∷ 10 ∷ []) }
+    -- an interval that the ramp window empties kept, or one that it cuts left whole
+    ∷ record { call = divide (marked 1 5 3 0); result = divides (7 ∷ 8 ∷ []) }
+    -- an interval of one output left out
+    ∷ record { call = divide (marked 1 1 1 0); result = divides (2 ∷ 2 ∷ []) }
+    -- the ramp window asked of 0
+    ∷ record { call = divide (marked 0 5 0 0); result = divides (0 ∷ 0 ∷ []) }
+    -- a down step above the previous output taken for an empty window
+    ∷ record { call = divide (marked 1 5 0 10); result = divides (2 ∷ 4 ∷ []) }
+    ∷ []
+
 pub table-holds : map (λ r. answer (r .call)) table ≡ map (λ r. r .result) table
 unfolding answer table u5 u5Reply U lossy marked zoned
 table-holds = refl
@@ -192,3 +208,7 @@ panel-forms-hold = refl
 pub searches-hold : map (λ r. answer (r .call)) searches ≡ map (λ r. r .result) searches
 unfolding answer searches largestLosses
 searches-hold = refl
+
+pub divisions-hold : map (λ r. answer (r .call)) divisions ≡ map (λ r. r .result) divisions
+unfolding answer divisions U marked zoned
+divisions-hold = refl

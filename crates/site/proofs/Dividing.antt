@@ -1,9 +1,9 @@
 -- The regions of a unit zone by zone: what is permitted below a zone's upper edge, from what is permitted below the end of the zone before.
-use mathlib.Core.Path.{_≡_, refl, sym, _∙_, subst}
+use mathlib.Core.Path.{_≡_, refl, sym, ap, _∙_, subst}
 use mathlib.Core.Bool.{true}
-use mathlib.Core.List.{List, [], _∷_}
+use mathlib.Core.List.{List, [], _∷_, _++_, append-nil}
 use mathlib.Core.Logic.{_⊎_, inl, inr}
-use Prim.Native.Nat.{ℕ, _+_, _*_, _≤_, _<_, max, min}
+use Prim.Native.Nat.{ℕ, _+_, _*_, _-_, _≤_, _<_, max, min}
 use native.Mathlib.Decide.{decLt, ℕ-discrete}
 use native.Mathlib.Omega.{arith}
 use lib.Dec.{eqb}
@@ -11,17 +11,19 @@ use lib.ListN.{length, getD, set, drop, length-set, drop-of-length-le}
 use mir.Val.{boolByte}
 use borrow.Author.Tests.{eqb-true, eq-eqb}
 use Rattle.rules.specs.Unit.{Unit, Zone, zoneAt, zones, permitted}
+use Rattle.rules.specs.Regions.{Region, intervals, leftOf, regions}
 use Rattle.rules.specs.Refusal.{zonesAscend}
 use Rattle.rules.proofs.Lists.{length-each}
 use Rattle.rules.proofs.Sound.{Sound, ascending as zones-ascending, zone-between, zone-parts}
 use Rattle.rules.proofs.Economics.Outputs.{stands-permitted, runs-permitted, permitted-greatest}
 use Rattle.site.specs.declared.Window.{Window}
 use Rattle.site.specs.Site.{low, high, Between}
-use Rattle.site.specs.Writing.{KeptOutside, Ascending, Inside, RegionsWritten}
+use Rattle.site.specs.Writing.{KeptOutside, Ascending, Inside, heldFrom, RegionsWritten}
 use Rattle.site.proofs.Windowed.{Windowed}
 use Rattle.site.proofs.KeptOutside.{kept-all, kept-set, kept-then, first-written, second-written, both-kept}
 use Rattle.site.proofs.Ascending.{Pushable, Pushed, pushed, counted, push, at-most-one, one-true}
-use Rattle.site.proofs.Zones.{outside, before-zone, after-zone, within-zone, next-zone}
+use Rattle.site.proofs.Held.{held-standing, held-more}
+use Rattle.rules.proofs.Zones.{outside, before-zone, after-zone, within-zone, next-zone}
 
 -- the regions start .. next − 1 have the permitted outputs below `from`, where zone k − 1 ends or the running outputs begin
 pub record Dividing (u : Unit) (start : ℕ) (before ends : List ℕ) (next from k : ℕ) : Type 0 where
@@ -37,6 +39,7 @@ pub record Dividing (u : Unit) (start : ℕ) (before ends : List ℕ) (next from
   pub below : (j : ℕ) → start ≤ j → j < next → high ends j < from
   pub offered : (p : ℕ) → Inside ends start next p → permitted u p ≡ true
   pub inside : (p : ℕ) → p < from → permitted u p ≡ true → Inside ends start next p
+  pub held : heldFrom ends start (next - start) ++ leftOf u (intervals from (drop k (zones u)) (u .greatest)) ≡ regions u
   pub passed : (p : ℕ) → from ≤ p → outside p (zones u) ≡ outside p (drop k (zones u))
 
 -- the array with region `start` as 0..0
@@ -72,6 +75,9 @@ module _ {u : Unit} (s : Sound u) where
     low-zero : low ends start ≡ 0
     low-zero = first-written before (2 * start) (2 * start + 1) 0 0 (omega arith) (omega arith)
 
+    high-of : high ends start ≡ 0
+    high-of = second-written before (2 * start) (2 * start + 1) 0 0 (omega arith) (omega arith)
+
     high-zero : (k : ℕ) → start ≤ k → k < next → high ends k ≡ 0
     high-zero k l h =
         let e : k ≡ start = omega (arith, few) in
@@ -85,6 +91,10 @@ module _ {u : Unit} (s : Sound u) where
         let z = only-zero p h e in
         let m = stands-permitted u .0 (subst (λ (q : ℕ). permitted u q ≡ true) z e) in
         record { region = start; from = omega arith; to = rw (eq-eqb (u .mark) 0 m) (omega arith); inside = record { from = omega (arith, low-zero); to = omega (arith, z) } }
+
+    held-first : heldFrom (standing before start) start (start + boolByte (eqb (u .mark) 0) - start) ++ leftOf u (intervals (u .least) (zones u) (u .greatest)) ≡ regions u
+    unfolding regions
+    held-first = ap (λ (rs : List Region). rs ++ leftOf u (intervals (u .least) (zones u) (u .greatest))) (held-standing (standing before start) start low-zero (high-of) (eqb (u .mark) 0))
 
     pub dividing-starts : Dividing u start (standing before start) (standing before start) (start + boolByte (eqb (u .mark) 0)) (u .least) 0
     dividing-starts =
@@ -107,6 +117,7 @@ module _ {u : Unit} (s : Sound u) where
           below = λ j l h. omega (arith, high-zero j l h, s .least);
           offered = λ p w. let z : p ≡ 0 = omega (arith, high-zero (w .region) (w .from) (w .to), w .inside) in rw z (stands-permitted u .1 (may-stand (w .region) (w .from) (w .to)));
           inside = stands;
+          held = held-first;
           passed = λ p h. refl;
         }
 
@@ -203,6 +214,10 @@ module _ {u : Unit} {start : ℕ} {before ends : List ℕ} {next from k low high
     ordered : (from < z .lower) × (z .lower < z .upper) × (zonesAscend (z .upper) zs (u .greatest) ≡ true)
     ordered = zone-parts from (u .greatest) z zs ascend
 
+    held-here : heldFrom ends start (next - start) ++ leftOf u (record { low = from; high = t .end } ∷ intervals (z .upper) zs (u .greatest)) ≡ regions u
+    unfolding intervals
+    held-here = rw (t .ends-at .0 l) (rw (next-zone u k l) at (d .held))
+
     pub dividing-more : Dividing u start before (pushed ends next low high) (counted next low high) (getD (u .edges) (2 * k + 1) 0) (k + 1)
     dividing-more =
         record {
@@ -218,6 +233,7 @@ module _ {u : Unit} {start : ℕ} {before ends : List ℕ} {next from k low high
           below = q .below (z .upper) (λ j m i. omega (arith, d .below j m i, ordered)) (omega (arith, ordered, t .ends-at .0 l));
           offered = λ p i. permitted-next p (λ h. rw (next-zone u k l) (before-zone p from (u .greatest) z zs ascend (omega (arith, t .ends-at .0 l)))) (q .inside p .0 i);
           inside = λ p h m. q .inside p .1 (in-next p m (λ f. omega (arith, t .ends-at .0 l, within-zone p z zs h (rw (next-zone u k l) at f))));
+          held = rw (t .lower, t .upper) (held-more u (t .window) (t .windowed) ends start next from (t .end) (intervals (z .upper) zs (u .greatest)) (regions u) (omega (arith, d .room, d .few, d .zone, s .zoneCount)) (d .starts) end held-here);
           passed = λ p h. d .passed p (omega (arith, ordered)) ∙ rw (next-zone u k l) (after-zone p z zs h);
         }
 
@@ -226,6 +242,10 @@ module _ {u : Unit} {start : ℕ} {before ends : List ℕ} {next from k low high
     none-left : drop k (zones u) ≡ []
     unfolding zones
     none-left = drop-of-length-le (zones u) {i = k} (omega (arith, length-each (u .zoneCount) (zoneAt (u .edges))))
+
+    held-last : heldFrom ends start (next - start) ++ leftOf u (record { low = from; high = t .end } ∷ []) ≡ regions u
+    unfolding intervals
+    held-last = rw (t .ends-at .1 (omega arith)) (rw none-left at (d .held))
 
     pub dividing-ends : {entry : List ℕ} → KeptOutside (2 * start) (2 * start + 12) entry before → RegionsWritten u start entry (pushed ends next low high) (counted next low high)
     dividing-ends first =
@@ -237,5 +257,6 @@ module _ {u : Unit} {start : ℕ} {before ends : List ℕ} {next from k low high
             λ m. q .inside p .1 (in-next p m (λ f. omega (arith, t .ends-at .1 (omega arith), permitted-greatest u p m))),
             λ i. permitted-next p (λ h. rw none-left) (q .inside p .0 i),
           );
+          held = sym (append-nil (heldFrom (pushed ends next low high) start (counted next low high - start))) ∙ rw (t .lower, t .upper) (held-more u (t .window) (t .windowed) ends start next from (t .end) [] (regions u) (omega (arith, d .room, d .few, d .zone, s .zoneCount)) (d .starts) end held-last);
           kept = kept-then first kept′;
         }

@@ -1,7 +1,7 @@
 pub mod KeptOutside
 pub mod Windowed
-pub mod Zones
 pub mod Ascending
+pub mod Held
 pub mod Dividing
 pub mod CoefficientsWritten
 pub mod HoldsOffer

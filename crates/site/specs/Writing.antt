@@ -5,9 +5,11 @@ use mathlib.Core.Bool.{Bool, true, false}
 use mathlib.Core.List.{List, []}
 use mathlib.Core.Logic.{_↔_}
 use lib.ListN.{getD}
+use Rattle.rules.specs.Lists.{each}
 use Rattle.rules.specs.Unit.{Unit, permitted}
 use Rattle.rules.specs.Layout.{edition, count}
 use Rattle.rules.specs.Refusal.{headVerdict, contentsVerdict}
+use Rattle.rules.specs.Regions.{Region, regions}
 use Rattle.rules.specs.Problem.{Offer, offer}
 use Rattle.rules.specs.declared.Verdict.{Verdict}
 use Rattle.rules.proofs.Sound.{Sound}
@@ -42,12 +44,17 @@ pub record Inside (ends : List ℕ) (start next p : ℕ) : Type 0 where
   pub to : region < next
   pub inside : Between (low ends region) (high ends region) p
 
--- the permitted outputs of a unit are those in the regions start .. next − 1
+-- the n regions of the array from number k on
+abbrev pub heldFrom : List ℕ → ℕ → ℕ → List Region
+heldFrom ends k n = each n (λ j. record { low = low ends (k + j); high = high ends (k + j) })
+
+-- the permitted outputs of a unit are those in the regions start .. next − 1, which are its regions one by one
 pub record RegionsWritten (u : Unit) (start : ℕ) (before after : List ℕ) (next : ℕ) : Type 0 where
   pub from : start ≤ next
   pub to : next ≤ start + 6
   pub ascending : Ascending after start next
   pub outputs : (p : ℕ) → (permitted u p ≡ true) ↔ Inside after start next p
+  pub held : heldFrom after start (next - start) ≡ regions u
   pub kept : KeptOutside (2 * start) (2 * start + 12) before after
 
 -- ---- one unit
