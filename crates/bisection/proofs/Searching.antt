@@ -281,7 +281,7 @@ module _ {H : Problem → Type 0} {n : ℕ} {start : code-state.SearchState} {be
 
   module _ {f : code-state.SearchState} {trace : List ℤ} (h : Reached H n start before f trace) where
     -- adjacent ends, or finished before
-    pub adjacent : f .width ≡ 0 → (start .evaluations ≤ start .most → f .evaluations ≤ start .most) → SearchesFrom H n start before (record { best = f .best; floor = f .floor; evaluations = f .evaluations; low = 0; width = 0; most = f .most }) trace
+    pub adjacent : f .width ≡ 0 → f .evaluations ≤ start .most → SearchesFrom H n start before (record { best = f .best; floor = f .floor; evaluations = f .evaluations; low = 0; width = 0; most = f .most }) trace
     adjacent e few =
         let w = closed (f .low) (f .width) (f .evaluations) (h .stage) (h .numbers) e in
         record {
@@ -302,9 +302,9 @@ module _ {H : Problem → Type 0} {n : ℕ} {start : code-state.SearchState} {be
           low = λ _. refl;
         }
 
-    pub stopped : f .width ≡ 0 → f .low ≡ 0 → (start .evaluations ≤ start .most → f .evaluations ≤ start .most) → SearchesFrom H n start before f trace
+    pub stopped : f .width ≡ 0 → f .low ≡ 0 → f .evaluations ≤ start .most → SearchesFrom H n start before f trace
     stopped e l few = record { reached = h; ended = inl e; few = few; low = λ _. l }
 
     -- no more evaluations
     pub spent : (f .width ≡ 0 → ⊥) → f .evaluations ≡ start .most → SearchesFrom H n start before f trace
-    spent more e = record { reached = h; ended = inr e; few = λ _. omega arith; low = λ z. absurd (more z) }
+    spent more e = record { reached = h; ended = inr e; few = omega arith; low = λ z. absurd (more z) }

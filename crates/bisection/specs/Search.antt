@@ -79,15 +79,16 @@ pub record HoldsTraced (q : Problem) (g : Found (List ℕ)) (f : code.Found) (tr
 
 -- ---- a search from where it stands
 
--- the numbers of a stage, after e evaluations: the next one is of low + width, the first of 131,072, which counts as 0; a finished search has width 0
+-- the numbers of a stage, after e evaluations: the next one is of low + width modulo 131,072, so the first of 0; a finished search has width 0
 abbrev pub At : Stage → ℕ → ℕ → ℕ → Type 0
 At atZero low width e = (low ≡ 0) × (width ≡ 131072) × (e ≡ 0)
 At atTop low width e = (low ≡ 0) × (width ≡ 65536) × (e ≡ 1)
 At (halving k l) low width e = (low ≡ l) × (width ≡ 2 ^ k) × (e + k ≡ 17) × (low + 2 * width ≤ 65536)
 At finished low width e = (width ≡ 0) × (e ≤ 18)
 
--- it may be gone on from
+-- the numbers are those of some stage, and no more evaluations are made than asked for
 pub record Begun (start : code-state.SearchState) : Type 0 where
+  pub asked : start .evaluations ≤ start .most
   pub stage : Stage
   pub numbers : At stage (start .low) (start .width) (start .evaluations)
 
@@ -99,11 +100,11 @@ raisedFloor q z (m ∷ ms) = cond (leZ (floor m q) (raisedFloor q z ms)) (raised
 abbrev pub onwardOf : Problem → ℕ → Standing (List ℕ) → Standing (List ℕ)
 onwardOf q = onward (λ m. selected m q) (totalNet (unitsOf q)) (target q)
 
--- the best x, which a holds, is x₀ and a₀ untouched, in all places, or what an evaluation took, behind that zeros
+-- either x and a are x₀ and a₀, or a holds x with zeros behind it
 abbrev pub HoldsBest : Problem → ℕ → List ℕ → code-allocation.Allocation → List ℕ → code-allocation.Allocation → Type 0
 HoldsBest q n x₀ a₀ x a = ((x ≡ x₀) × (a ≡ a₀)) ⊎ (HoldsOutputs q x (a .outputs) (sumsOf a) × (drop n (a .outputs) ≡ drop n (replicate 32 0)))
 
--- from s, which `start` and `before` hold, to g, which f and `trace` hold
+-- what `start` and `before` hold of s, f and `trace` hold of g
 pub record HoldsStanding (q : Problem) (n : ℕ) (s : Standing (List ℕ)) (start : code-state.SearchState) (before : List ℤ) (stage : Stage) (g : Standing (List ℕ)) (f : code-state.SearchState) (trace : List ℤ) : Type 0 where
   pub best : HoldsBest q n (s .best) (start .best) (g .best) (f .best)
   pub floor : (z : ℤ) → start .floor ≡ raisedFloor q z (s .evaluated) → f .floor ≡ raisedFloor q z (g .evaluated)
@@ -111,7 +112,7 @@ pub record HoldsStanding (q : Problem) (n : ℕ) (s : Standing (List ℕ)) (star
   pub traced : 36 ≤ length trace → start .evaluations ≡ length (s .evaluated) → Traces q (s .evaluated) before → Traces q (g .evaluated) trace
   pub staged : g .stage ≡ stage
 
--- after so many evaluations from `start`
+-- after `rounds` evaluations from `start`
 pub record Reached (H : Problem → Type 0) (n : ℕ) (start : code-state.SearchState) (before : List ℤ) (f : code-state.SearchState) (trace : List ℤ) : Type 0 where
   pub stage : Stage
   pub rounds : ℕ
@@ -125,7 +126,7 @@ pub record Reached (H : Problem → Type 0) (n : ℕ) (start : code-state.Search
 pub record SearchesFrom (H : Problem → Type 0) (n : ℕ) (start : code-state.SearchState) (before : List ℤ) (r : code-state.SearchState) (trace : List ℤ) : Type 0 where
   pub reached : Reached H n start before r trace
   pub ended : (r .width ≡ 0) ⊎ (r .evaluations ≡ start .most)
-  pub few : start .evaluations ≤ start .most → r .evaluations ≤ start .most
+  pub few : r .evaluations ≤ start .most
   pub low : r .width ≡ 0 → r .low ≡ 0
 
 -- steps 2 to 4 of a problem, from the greatest outputs

@@ -16,7 +16,7 @@ pub struct Allocation {
     pub net: u64,
 }
 
-// What the search has found so far: its best allocation, the greatest floor, and the number of evaluations.
+// What a search found: its best allocation, the greatest floor, and the number of evaluations.
 pub struct Found {
     pub best: Allocation,
     pub floor: i64,
@@ -42,8 +42,9 @@ fn note(trace: &mut [i64], k: u16, m: u64, dual: i64)
     }
 }
 
-// Where a search stands between two evaluations. The next one is of `low` + `width`, modulo 131,072: the first width is 131,072, so
-// the first multiplier is 0. A finished search has width 0. It may make `most` evaluations in all.
+// Where a search stands between two evaluations: the best and the greatest floor so far, and the number of evaluations made. The
+// next one is of `low` + `width` modulo 131,072: the first width is 131,072, so the first multiplier is 0. A finished search has width
+// 0. It may make `most` evaluations in all.
 pub struct SearchState {
     pub best: Allocation,
     pub floor: i64,
@@ -53,8 +54,8 @@ pub struct SearchState {
     pub most: u16,
 }
 
-// Steps 2 to 4 from where a search stands, until it is finished or has made `most` evaluations: each halves the width first, and a
-// multiplier that does not cover becomes the low end. What is evaluated is noted in the trace.
+// Steps 2 to 4 from where a search stands, until it is finished or has made `most` evaluations. Each turn evaluates the next
+// multiplier and halves the width; a multiplier that does not cover becomes the low end. What is evaluated is noted in the trace.
 pub fn search_from(
     coefficients: &[u64; 160],
     ends: &[u16; 384],

@@ -31,7 +31,7 @@ intervals below (z ∷ zs) above = record { low = below; high = z .lower } ∷ i
 abbrev pub windowed : Unit → Region → Region
 windowed u r = cond (ltb 0 (u .previous)) (record { low = max (r .low) (u .previous - u .down); high = min (r .high) (u .previous + u .up) }) r
 
--- what it leaves of some, without those that it empties
+-- what it leaves of some, without those that are empty then (an interval of an accepted unit is not empty before)
 abbrev pub leftOf : Unit → List Region → List Region
 leftOf u rs = filter (λ r. leb (r .low) (r .high)) (map (windowed u) rs)
 
@@ -43,12 +43,12 @@ regions u =
 
 -- ---- what is true of them (proved in proofs/Regions)
 
--- they ascend from b on and lie apart, and none is empty
+-- they ascend from b on, no two share an output, and none is empty
 abbrev pub AscendFrom : ℕ → List Region → Type 0
 AscendFrom b [] = record {}
 AscendFrom b (r ∷ rs) = (b ≤ r .low) × (r .low ≤ r .high) × AscendFrom (suc (r .high)) rs
 
--- (rule 5.6) the permitted outputs of an accepted unit are those of its regions in order
+-- (rule 5.6) an output of an accepted unit is permitted exactly if it lies in one of its regions, which ascend
 pub record RegionsOf (u : Unit) : Type 0 where
   pub outputs : (p : ℕ) → (permitted u p ≡ true) ↔ (inSome p (regions u) ≡ true)
   pub ascend : AscendFrom 0 (regions u)

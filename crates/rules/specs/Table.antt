@@ -187,6 +187,14 @@ divisions =
     ∷ record { call = divide (marked 0 5 0 0); result = divides (0 ∷ 0 ∷ []) }
     -- a down step above the previous output taken for an empty window
     ∷ record { call = divide (marked 1 5 0 10); result = divides (2 ∷ 4 ∷ []) }
+    -- a border without an inside left out where there is a ramp window
+    ∷ record { call = divide (unit 10000 1000 0 4 1 1 1 4 5); result = divides (3 ∷ 4 ∷ 5 ∷ 5 ∷ []) }
+    -- a unit without a permitted output given a region
+    ∷ record { call = divide (marked 1 5 0 0); result = divides [] }
+    -- no running interval where there is no zone
+    ∷ record { call = divide (unitOfRow (0 ∷ 10000 ∷ 1000 ∷ 0 ∷ 2 ∷ 10 ∷ replicate 13 0)); result = divides (0 ∷ 0 ∷ 2 ∷ 10 ∷ []) }
+    -- what lies between two zones left out
+    ∷ record { call = divide (unitOfRow (0 ∷ 10000 ∷ 1000 ∷ 0 ∷ 2 ∷ 10 ∷ 0 ∷ 0 ∷ 0 ∷ 1 ∷ 2 ∷ 3 ∷ 4 ∷ 6 ∷ 9 ∷ replicate 4 0)); result = divides (2 ∷ 3 ∷ 4 ∷ 6 ∷ 9 ∷ 10 ∷ []) }
     ∷ []
 
 pub table-holds : map (λ r. answer (r .call)) table ≡ map (λ r. r .result) table
@@ -210,5 +218,5 @@ unfolding answer searches largestLosses
 searches-hold = refl
 
 pub divisions-hold : map (λ r. answer (r .call)) divisions ≡ map (λ r. r .result) divisions
-unfolding answer divisions U marked zoned
+unfolding answer divisions U marked zoned unitOfRow
 divisions-hold = refl

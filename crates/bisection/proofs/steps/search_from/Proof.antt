@@ -22,7 +22,7 @@ use Rattle.bisection.proofs.steps.search_from.Tie as tie
 
 abbrev Inv-loop : tie.InvT-loop
 Inv-loop coefficients ends ranges n t trace₀ best₀ floor₀ evaluations₀ low₀ width₀ most outputs₀ least₀ trace best floor evaluations low width outputs least =
-    (32 ≡ length outputs) × (32 ≡ length least) × Reached (Holding coefficients ends ranges n t) n (record { best = best₀; floor = toZ w64 floor₀; evaluations = evaluations₀; low = low₀; width = width₀; most = most }) trace₀ (record { best = best; floor = toZ w64 floor; evaluations = evaluations; low = low; width = width; most = most }) trace × (length trace ≡ length trace₀) × (drop n outputs ≡ drop n (replicate 32 0)) × (evaluations₀ ≤ most → evaluations ≤ most)
+    (32 ≡ length outputs) × (32 ≡ length least) × Reached (Holding coefficients ends ranges n t) n (record { best = best₀; floor = toZ w64 floor₀; evaluations = evaluations₀; low = low₀; width = width₀; most = most }) trace₀ (record { best = best; floor = toZ w64 floor; evaluations = evaluations; low = low; width = width; most = most }) trace × (length trace ≡ length trace₀) × (drop n outputs ≡ drop n (replicate 32 0)) × (evaluations ≤ most)
 
 abbrev μ-loop : tie.MeasureT-loop
 μ-loop coefficients ends ranges n t trace₀ best₀ floor₀ evaluations₀ low₀ width₀ most outputs₀ least₀ trace best floor evaluations low width outputs least = width
@@ -42,7 +42,7 @@ demanded s q h = h .demanded
 loop-holds : tie.Need-loop-holds Inv-loop μ-loop
 loop-holds c =
     let s = c .before .before in
-    (refl, refl, reached-starts (record { stage = s .pre .1 .stage; numbers = s .pre .1 .numbers }), refl, refl, λ e. e)
+    (refl, refl, reached-starts (record { asked = s .pre .1 .asked; stage = s .pre .1 .stage; numbers = s .pre .1 .numbers }), refl, refl, s .pre .1 .asked)
 
 -- ---- a turn
 
@@ -130,8 +130,8 @@ smaller : (c : tie.Else2 Inv-loop μ-loop) → at-loop c .loop .width / 2 < at-l
 smaller c = omega (arith, c .before .if1 .left)
 
 -- another evaluation was allowed
-fewer : (c : tie.Else2 Inv-loop μ-loop) → let s = entry (at-loop c) .args .start in s .evaluations ≤ s .most → at-loop c .loop .evaluations + 1 ≤ s .most
-fewer c h = omega (arith, at-loop c .loop .inv .5 h, c .if2 .left)
+fewer : (c : tie.Else2 Inv-loop μ-loop) → at-loop c .loop .evaluations + 1 ≤ entry (at-loop c) .args .start .most
+fewer c = omega (arith, at-loop c .loop .inv .5, c .if2 .left)
 
 -- ---- it covers, and is lowered
 
