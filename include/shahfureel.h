@@ -49,6 +49,8 @@
  *   - it returns, and reads and writes nothing outside the buffers that it is lent;
  *   - a refusal leaves every lent buffer as it was;
  *   - otherwise only the start of an output buffer is written, as far as the call says; the rest is untouched;
+ *   - more load is never cheaper: of two case files that differ only in the demand, if dispatch solves the higher one it solves the
+ *     lower one too, with a cost and a cost - gap that are not above the higher one's (gap, surplus and a unit's output may be);
  *   - it keeps nothing between calls and allocates nothing. Several threads may call at once, also on the same input, each with
  *     output buffers of its own. It takes less than 4 kB of stack; in a dynamically linked program 6 kB at the first call, when
  *     the loader looks up memset (seen, not proved).

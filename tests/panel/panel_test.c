@@ -346,8 +346,30 @@ static void dispatching_edition_2(size_t a)
     dispatch_gives(case_file, 38, a, 92, SHAHFUREEL_CONTENTS_INVALID, "a body of 26 bytes is 6 in edition 2");
 }
 
+/* two demands of one file: the higher one costs no less and has no smaller cost - gap */
+static void more_load(const uint8_t *lower, const uint8_t *higher, size_t file_length, size_t a, const char *what)
+{
+    const uint8_t *reply = byte_space + GUARD + a;
+    expect(memcmp(lower, higher, 4) == 0 && memcmp(lower + 8, higher + 8, file_length - 8) == 0, "dispatch", "demands alone differ");
+    expect(dispatch(higher, file_length, a, BYTES) == sizeof U5_REPLY, "dispatch", what);
+    uint64_t cost = shahfureel_reply_cost(reply), gap = shahfureel_reply_gap(reply);
+    expect(dispatch(lower, file_length, a, BYTES) == sizeof U5_REPLY, "dispatch", what);
+    expect(shahfureel_reply_cost(reply) <= cost, "dispatch", what);
+    expect(shahfureel_reply_cost(reply) - shahfureel_reply_gap(reply) <= cost - gap, "dispatch", what);
+}
+
+static void dispatching_loads(size_t a)
+{
+    uint8_t higher[E2_BYTES];
+    memcpy(higher, u5_but(7, 7), U5_BYTES);
+    more_load(u5(), higher, U5_BYTES, a, "U at 5 costs no more than at 7");
+    memcpy(higher, e2_but(7, 11), E2_BYTES);
+    more_load(e2(), higher, E2_BYTES, a, "U of edition 2 at 5 costs no more than at 11");
+}
+
 static void dispatching(size_t a)
 {
+    dispatching_loads(a);
     standing_costs_nothing(a);
     dispatching_lowered(a);
     dispatching_edition_2(a);

@@ -4,7 +4,7 @@
 use second_solver::branches::Reached;
 use second_solver::calls::{bytes_of, Call};
 use second_solver::generate::kinds;
-use second_solver::promise::{self, Floors, Judgements};
+use second_solver::promise::{self, Floors, Judgements, Loads};
 use second_solver::random::Random;
 use second_solver::solver::{self, Judged, Refused};
 use second_solver::tally::{Tally, POSSIBLE_IN_C};
@@ -279,7 +279,16 @@ fn refusal(call: &Call, number: u32) -> Option<Refused> {
 
 /// Makes one call both ways. Gives the library's answer and buffers, or an error that tells the difference.
 fn compare(call: &Call, random: &mut Random) -> Result<(u32, Buffers), String> {
-    let before = Buffers::new(call, random);
+    compare_in(call, Buffers::new(call, random))
+}
+
+/// The same with so many bytes lent for the answer.
+fn compare_with_room(call: &Call, room: usize, random: &mut Random) -> Result<(u32, Buffers), String> {
+    let bytes_out = Lent::random(room, random, random_byte);
+    compare_in(call, Buffers { bytes_out, ..Buffers::new(call, random) })
+}
+
+fn compare_in(call: &Call, before: Buffers) -> Result<(u32, Buffers), String> {
     let (mut by_library, mut by_solver) = (before.clone(), before.clone());
     let library = library_answer(call, &mut by_library);
     let solver = solver_answer(call, &mut by_solver);
@@ -362,6 +371,7 @@ struct Run {
     promises: u64,
     judgements: Judgements,
     floors: Floors,
+    loads: Loads,
 }
 
 impl Run {
@@ -377,6 +387,11 @@ impl Run {
             self.reached.count(&call, refusal(&call, number));
             if by_brute_force {
                 self.check_promise(&call, number, &mut buffers)?;
+            }
+            if let Call::Dispatch { file, .. } = &call {
+                if matches!(refusal(&call, number), None | Some(Refused(11))) && random.chance(2) {
+                    self.check_loads(file, &mut random)?;
+                }
             }
         }
         self.cases += 1;
@@ -407,6 +422,26 @@ impl Run {
         }
     }
 
+    /// Dispatches an accepted file with two demands: what the lower one costs is held against the higher one.
+    fn check_loads(&mut self, file: &[u8], random: &mut Random) -> Result<(), String> {
+        let own = u32::from_be_bytes([file[4], file[5], file[6], file[7]]);
+        let near = own.saturating_add(random.below(12) as u32).min(320_000);
+        let any = random.below(320_001) as u32;
+        let other = random.pick(&[0, own / 2, own.saturating_sub(1), near, near, near, any]);
+        let mut replies = Vec::new();
+        for demand in [own.min(other), own.max(other)] {
+            let mut changed = file.to_vec();
+            changed[4..8].copy_from_slice(&demand.to_be_bytes());
+            let call = Call::Dispatch { file: changed, room: 92 };
+            let (number, mut buffers) = compare_with_room(&call, 92, random)?;
+            let written = buffers.bytes_out.part();
+            replies.push(refusal(&call, number).map_or_else(|| Ok(solver::decode_reply(&written[..number as usize])), Err));
+        }
+        let higher = replies.pop().expect("two replies");
+        let lower = replies.pop().expect("two replies");
+        self.loads.check(lower, higher).map_err(|text| format!("{}\nfile {}", text, hex(file)))
+    }
+
     fn case_or_exit(&mut self, seed: u64) {
         if let Err(text) = self.case(seed) {
             println!("{}\ncase seed {}: repeat it with `tests/second_solver/bulk --case {}`", text.trim_end(), seed, seed);
@@ -419,6 +454,7 @@ impl Run {
         let by_brute_force =
             format!("{} dispatches, {} judgements and {} floors by brute force", dispatches, judgements, floors);
         println!("{} calls of {} cases compared, {}", self.tally.total(), self.cases, by_brute_force);
+        println!("{} pairs of demands of one file, both solved in {}", self.loads.checked, self.loads.both_solved);
         for line in self.tally.lines().iter().chain(&self.reached.lines()) {
             println!("{}", line);
         }
@@ -438,6 +474,7 @@ fn run_for(seconds: u64, seed: u64) {
     if run.cases >= 1_000 {
         run.tally.assert_complete(POSSIBLE_IN_C);
         run.reached.assert_complete();
+        assert!(run.loads.both_solved > 0 && run.loads.checked > run.loads.both_solved, "no pair of demands, or none refused");
     }
     println!("repeat this run with seed {}", seed);
 }

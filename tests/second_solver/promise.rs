@@ -1,5 +1,5 @@
 //! Demand 3, and what is promised of judgements and of floors for other demands, by brute force: all allocations of a small case, and
-//! all multipliers from 0 to 65,536.
+//! all multipliers from 0 to 65,536. And of two demands of one case, that the greater is never cheaper.
 
 use crate::hex;
 use crate::solver::{self, Allocation, Case, Judged, Offer, Refused, Reply};
@@ -368,5 +368,32 @@ impl Floors {
         broken.map_or(Ok(()), |sentence| {
             Err(format!("not so: {}\nfile {}\ndemands {:?}\nanswer {:?}", sentence, hex(file), demands, answer))
         })
+    }
+}
+
+// ---- two demands of one case
+
+/// Checks dispatches of files that differ only in demand.
+#[derive(Default)]
+pub struct Loads {
+    pub checked: u64,
+    pub both_solved: u64,
+}
+
+impl Loads {
+    /// Checks every sentence for two such answers, the lower demand's first. An error has the sentence that fails.
+    pub fn check(&mut self, lower: Result<Reply, Refused>, higher: Result<Reply, Refused>) -> Result<(), String> {
+        let floor = |reply: &Reply| reply.cost - reply.gap;
+        let broken = match (&lower, &higher) {
+            (Err(Refused(11)), Ok(_)) => Some("if the higher demand is solved so is the lower"),
+            (Ok(lower), Ok(higher)) if lower.cost > higher.cost => Some("the lower demand costs no more"),
+            (Ok(lower), Ok(higher)) if floor(lower) > floor(higher) => Some("the lower demand has no greater floor"),
+            (Ok(_), Ok(_)) => None,
+            (Ok(_), Err(Refused(11))) | (Err(Refused(11)), Err(Refused(11))) => None,
+            _ => Some("an accepted file is solved or refused with 11"),
+        };
+        self.checked += 1;
+        self.both_solved += u64::from(lower.is_ok() && higher.is_ok());
+        broken.map_or(Ok(()), |sentence| Err(format!("not so: {}\nlower {:?}\nhigher {:?}", sentence, lower, higher)))
     }
 }

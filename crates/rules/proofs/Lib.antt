@@ -11,4 +11,5 @@ pub mod Rising
 pub mod Demand3
 pub mod Saving
 pub mod Replied
+pub mod Loads
 pub mod Lengths

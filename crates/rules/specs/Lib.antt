@@ -12,6 +12,7 @@ pub mod Calls
 pub mod Undoing
 pub mod Losses
 pub mod Promise
+pub mod Loads
 pub mod Lowering
 pub mod Cases
 pub mod CaseFiles
@@ -19,3 +20,4 @@ pub mod Table
 pub mod TableOfRefusals
 pub mod TableOfEditions
 pub mod TableOfLowering
+pub mod TableOfLoads

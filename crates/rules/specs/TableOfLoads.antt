@@ -1,0 +1,51 @@
+-- Rule 17.6 of docs/SPECIFICATION.md: files of one site at two demands (S-12), the lower demand's row first. Above each pair stands what it shows.
+use mathlib.Core.Bool.{true}
+use mathlib.Core.List.{List, [], _∷_, map}
+use mathlib.Core.Path.{_≡_, refl}
+use Prim.Native.Nat.{ℕ}
+use lib.IntN.{pos}
+use lib.ListN.{replicate}
+use Rattle.rules.specs.Layout.{fileOf, unitOfRow}
+use Rattle.rules.specs.Unit.{Unit}
+use Rattle.rules.specs.Cases.{Row, answer, buffer, reply, dispatch, price, refuses, values}
+use Rattle.rules.specs.CaseFiles.{u5, put, withLinearLoss, U}
+
+-- the file with another demand, of one byte: bytes 4 to 7 alone may differ
+abbrev pub atDemand : ℕ → List ℕ → List ℕ
+atDemand d file = put 4 (0 ∷ 0 ∷ 0 ∷ d ∷ []) file
+
+-- U without its zone
+unfoldable pub zoneless : Unit
+zoneless = unitOfRow (0 ∷ 10000 ∷ 1000 ∷ 0 ∷ 2 ∷ 10 ∷ replicate 13 0)
+
+unfoldable pub loads : List Row
+loads =
+    -- cost need not grow; gap, surplus and evaluations fall
+    record { call = dispatch (atDemand 5 u5); result = reply (7 ∷ []) 119000 42000 18 200000000 }
+    ∷ record { call = dispatch (atDemand 7 u5); result = reply (7 ∷ []) 119000 0 15 0 }
+    -- that the lower is solved says nothing of the higher
+    ∷ record { call = dispatch (atDemand 10 u5); result = reply (10 ∷ []) 200000 0 2 0 }
+    ∷ record { call = dispatch (atDemand 11 u5); result = refuses 11 buffer }
+    -- with one step less to cover, one unit more is lowered
+    ∷ record { call = dispatch (fileOf 4 (U ∷ U ∷ [])); result = reply (2 ∷ 2 ∷ []) 48000 0 16 0 }
+    ∷ record { call = dispatch (fileOf 5 (U ∷ U ∷ [])); result = reply (2 ∷ 3 ∷ []) 63000 0 18 0 }
+    -- one unit's output falls with more load
+    ∷ record { call = dispatch (fileOf 10 (U ∷ zoneless ∷ [])); result = reply (4 ∷ 6 ∷ []) 152000 0 18 0 }
+    ∷ record { call = dispatch (fileOf 12 (U ∷ zoneless ∷ [])); result = reply (7 ∷ 5 ∷ []) 194000 0 18 0 }
+    -- no load, and the greatest that is covered
+    ∷ record { call = dispatch (atDemand 0 u5); result = reply (0 ∷ []) 0 0 1 0 }
+    ∷ record { call = dispatch (atDemand 10 u5); result = reply (10 ∷ []) 200000 0 2 0 }
+    -- edition 2, b1 10,000,000
+    ∷ record { call = dispatch (atDemand 5 (withLinearLoss 0x00 0x98 0x96 0x80)); result = reply (7 ∷ []) 119000 30800 18 130000000 }
+    ∷ record { call = dispatch (atDemand 7 (withLinearLoss 0x00 0x98 0x96 0x80)); result = reply (8 ∷ []) 144000 5600 18 20000000 }
+    -- the same units in two editions
+    ∷ record { call = dispatch (atDemand 5 u5); result = reply (7 ∷ []) 119000 42000 18 200000000 }
+    ∷ record { call = dispatch (atDemand 6 (withLinearLoss 0x00 0x00 0x00 0x00)); result = reply (7 ∷ []) 119000 21000 18 100000000 }
+    -- pricing at one multiplier
+    ∷ record { call = price (atDemand 5 u5) 21; result = values (pos 7700000000) true }
+    ∷ record { call = price (atDemand 6 u5) 21; result = values (pos 9800000000) true }
+    ∷ []
+
+pub loads-hold : map (λ r. answer (r .call)) loads ≡ map (λ r. r .result) loads
+unfolding answer loads u5 withLinearLoss U zoneless unitOfRow
+loads-hold = refl
