@@ -425,9 +425,12 @@ impl Run {
     /// Dispatches an accepted file with two demands: what the lower one costs is held against the higher one.
     fn check_loads(&mut self, file: &[u8], random: &mut Random) -> Result<(), String> {
         let own = u32::from_be_bytes([file[4], file[5], file[6], file[7]]);
-        let near = own.saturating_add(random.below(12) as u32).min(320_000);
+        let near = own.saturating_add(1 + random.below(12) as u32).min(320_000);
         let any = random.below(320_001) as u32;
         let other = random.pick(&[0, own / 2, own.saturating_sub(1), near, near, near, any]);
+        if other == own {
+            return Ok(());
+        }
         let mut replies = Vec::new();
         for demand in [own.min(other), own.max(other)] {
             let mut changed = file.to_vec();
@@ -454,7 +457,7 @@ impl Run {
         let by_brute_force =
             format!("{} dispatches, {} judgements and {} floors by brute force", dispatches, judgements, floors);
         println!("{} calls of {} cases compared, {}", self.tally.total(), self.cases, by_brute_force);
-        println!("{} pairs of demands of one file, both solved in {}", self.loads.checked, self.loads.both_solved);
+        println!("{}", self.loads.line());
         for line in self.tally.lines().iter().chain(&self.reached.lines()) {
             println!("{}", line);
         }
@@ -474,7 +477,7 @@ fn run_for(seconds: u64, seed: u64) {
     if run.cases >= 1_000 {
         run.tally.assert_complete(POSSIBLE_IN_C);
         run.reached.assert_complete();
-        assert!(run.loads.both_solved > 0 && run.loads.checked > run.loads.both_solved, "no pair of demands, or none refused");
+        run.loads.assert_complete();
     }
     println!("repeat this run with seed {}", seed);
 }

@@ -376,8 +376,10 @@ impl Floors {
 /// Checks dispatches of files that differ only in demand.
 #[derive(Default)]
 pub struct Loads {
-    pub checked: u64,
-    pub both_solved: u64,
+    checked: u64,
+    dearer: u64,
+    greater_floor_alone: u64,
+    higher_refused: u64,
 }
 
 impl Loads {
@@ -393,7 +395,22 @@ impl Loads {
             _ => Some("an accepted file is solved or refused with 11"),
         };
         self.checked += 1;
-        self.both_solved += u64::from(lower.is_ok() && higher.is_ok());
+        if let (Ok(lower), Ok(higher)) = (&lower, &higher) {
+            self.dearer += u64::from(lower.cost < higher.cost);
+            self.greater_floor_alone += u64::from(lower.cost == higher.cost && floor(lower) < floor(higher));
+        }
+        self.higher_refused += u64::from(lower.is_ok() && higher.is_err());
         broken.map_or(Ok(()), |sentence| Err(format!("not so: {}\nlower {:?}\nhigher {:?}", sentence, lower, higher)))
+    }
+
+    pub fn line(&self) -> String {
+        format!(
+            "{} pairs of demands of one file: the higher dearer in {}, only its floor greater in {}, refused in {}",
+            self.checked, self.dearer, self.greater_floor_alone, self.higher_refused
+        )
+    }
+
+    pub fn assert_complete(&self) {
+        assert!(self.dearer > 0 && self.greater_floor_alone > 0 && self.higher_refused > 0, "a kind of pair is missing: {}", self.line());
     }
 }

@@ -40,7 +40,7 @@ pub record NoDearer (n : ℕ) (lower higher : DispatchResult) : Type 0 where
   pub cost : replyIn (lower .reply) .cost ≤ replyIn (higher .reply) .cost
   pub floor : costLessGap (replyIn (lower .reply)) ≤ℤ costLessGap (replyIn (higher .reply))
 
--- whatever buffers the two are given: where the higher demand is solved
+-- whichever buffers of 92 bytes or more the two are given: where the higher demand is solved
 abbrev pub MoreLoadNeverCheaper : (List ℕ → List ℕ → DispatchResult) → Type 0
 MoreLoadNeverCheaper dispatch =
     (lower higher buffer other : List ℕ) (n : ℕ)
