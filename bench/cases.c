@@ -27,6 +27,14 @@ static void make_edges(uint64_t *state, uint32_t *edges, uint32_t zones, uint32_
         edges[k] = least + 1 + part * k + random_between(state, 0, part - 1);
 }
 
+/* Lets some zones start where the one before ends. */
+static void share_edges(uint32_t *edges, uint32_t zones)
+{
+    for (uint32_t k = 2; k < 2 * zones; k += 2)
+        if (edges[k] % 4 == 0)
+            edges[k] = edges[k - 1];
+}
+
 /* Half of the sets stood still before; of the others the ramp limits leave about a third of the range. */
 static void make_ramp(uint64_t *state, uint32_t *row, uint32_t least, uint32_t greatest)
 {
@@ -180,6 +188,7 @@ static void make_small_row(uint64_t *state, uint32_t *row)
     row[9] = random_between(state, 0, 1);
     row[10] = zones;
     make_edges(state, row + 11, zones, least, greatest);
+    share_edges(row + 11, zones);
 }
 
 void make_small_case(uint64_t *state, struct case_file *c)

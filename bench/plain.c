@@ -169,15 +169,16 @@ static void read_unit(const uint8_t *body, uint32_t edges, struct unit *u)
         u->edges[k] = (int32_t)read_u16(body + edges + 2 * k);
 }
 
+/* The edges rise from above least to below greatest; two zones may share one. */
 static int zones_ascend(const struct unit *u)
 {
-    int32_t below = u->least;
-    for (uint32_t k = 0; k < 2 * u->zone_count; k++) {
-        if (u->edges[k] <= below)
+    int32_t below = u->least + 1;
+    for (uint32_t k = 0; k < u->zone_count; k++) {
+        if (u->edges[2 * k] < below || u->edges[2 * k + 1] <= u->edges[2 * k])
             return 0;
-        below = u->edges[k];
+        below = u->edges[2 * k + 1];
     }
-    return below < u->greatest;
+    return u->zone_count == 0 || below < u->greatest;
 }
 
 static enum refusal check_unit(const struct unit *u)

@@ -49,11 +49,9 @@
  *   - it returns, and reads and writes nothing outside the buffers that it is lent;
  *   - a refusal leaves every lent buffer as it was;
  *   - otherwise only the start of an output buffer is written, as far as the call says; the rest is untouched;
- *   - more load is never cheaper: of two case files that differ only in the demand, if dispatch solves the higher one it solves the
- *     lower one too, with a cost and a cost - gap that are not above the higher one's (gap, surplus and a unit's output may be);
  *   - it keeps nothing between calls and allocates nothing. Several threads may call at once, also on the same input, each with
- *     output buffers of its own. It takes less than 4 kB of stack; in a dynamically linked program 6 kB at the first call, when
- *     the loader looks up memset (seen, not proved).
+ *     output buffers of its own. The stack that each takes is named below, SHAHFUREEL_STACK_...; in a dynamically
+ *     linked program the first call takes up to 3 kB more, when the loader looks up memset (seen, not proved).
  * What the caller must ensure (nothing in C can check it):
  *   - each pointer is valid for its length or room, and lists of numbers are aligned for their type;
  *   - LENGTHS AND ROOM OF LISTS COUNT NUMBERS, NOT BYTES: rows_length, rows_room, outputs_length, demands_length, floors_room,
@@ -91,6 +89,16 @@ extern "C" {
 #define SHAHFUREEL_VIEW_REQUEST_BYTES 5u     /* a Modbus request: function, start and quantity */
 #define SHAHFUREEL_VIEW_ANSWER_BYTES 252u    /* a buffer for a Modbus answer has at least as many bytes */
 
+/* ---- the stack that each call takes, in bytes at most (measured by tests/panel/stack.c, not proved) */
+
+#define SHAHFUREEL_STACK_DISPATCH 3840u
+#define SHAHFUREEL_STACK_PRICE 3584u
+#define SHAHFUREEL_STACK_PACK 512u
+#define SHAHFUREEL_STACK_UNPACK 768u
+#define SHAHFUREEL_STACK_VIEW 256u
+#define SHAHFUREEL_STACK_JUDGE 3840u
+#define SHAHFUREEL_STACK_FLOORS 4096u
+
 /* ---- editions of the case file. Edition 1 is what shahfureel_pack writes and shahfureel_unpack reads. In edition 2 each unit
  * also has b1, a linear loss, from -10,000,000 to 10,000,000: at output p the unit loses b1 * p hundred-millionths of a step
  * more. It is a B0 coefficient times 100,000,000, and may be negative. Edition 1 is read as b1 = 0. shahfureel_dispatch,
@@ -108,7 +116,8 @@ extern "C" {
  * edition 2 also b1 * p. So a set that costs A + B * P + C * P * P an hour while it runs, and loses L * P * P + K * P MW, at P
  * MW, has c0 = 1,000,000 A, c1 = 100,000 B, c2 = 10,000 C, b = 10,000,000 L, b1 = 100,000,000 K.
  *
- * A running output lies from least to greatest and strictly inside no zone (both edges are permitted). If previous is above 0, a
+ * A running output lies from least to greatest and strictly inside no zone (both edges are permitted; a zone may start where the
+ * one before ends, and that edge is then permitted alone between them). If previous is above 0, a
  * running output also lies from previous - down to previous + up: 0 means that the set may not move that way, 10,000 that there
  * is no limit. If previous is 0, up and down are ignored. Output 0 is permitted exactly for a set that may stand, ramp or not. */
 
@@ -218,7 +227,8 @@ enum shahfureel_refusal {
     SHAHFUREEL_CONTENTS_INVALID = 6,         /* offsets, lengths or the file's end do not fit: cut, or its room passed? */
     SHAHFUREEL_ZONE_COUNT_INVALID = 7,       /* more than 4 zones, or not as many as the body or row has (unused are 0) */
     SHAHFUREEL_COEFFICIENT_OUT_OF_RANGE = 8, /* c0, c1, c2 or b of a unit is above its limit */
-    SHAHFUREEL_LIMITS_INVALID = 9,           /* 1 <= least, then zone edges, then greatest <= 10,000: strictly rising */
+    SHAHFUREEL_LIMITS_INVALID = 9,           /* 1 <= least, then zone edges, then greatest <= 10,000: strictly rising, but a zone may
+                                              * start where the one before ends */
     SHAHFUREEL_RAMP_OR_MARK_OUT_OF_RANGE = 10, /* previous, up or down above 10,000, or a mark that is not 0 or 1 */
     SHAHFUREEL_NO_ALLOCATION = 11,           /* no permitted outputs cover the demand after losses: see above */
     SHAHFUREEL_ROWS_INVALID = 12,            /* rows_length is 0, above 608, or not 19 to a unit: does it count numbers? */
@@ -238,7 +248,9 @@ enum shahfureel_refusal {
 
 /* Dispatches a case file, of either edition. Returns the reply's length, 28 + 2 * units, and writes the reply; or returns a
  * refusal, which is below SHAHFUREEL_LENGTH_MIN. The outputs in the reply are permitted and cover the demand after losses; no
- * permitted outputs that cover it cost less than cost - gap. */
+ * permitted outputs that cover it cost less than cost - gap. More load is never cheaper: of two case files that differ only in the
+ * demand, if the higher demand is solved so is the lower, with no more cost and no greater cost - gap (specification, rule 16.20);
+ * its gap, surplus, evaluations and a unit's output may be greater. */
 uint32_t shahfureel_dispatch(const uint8_t *file, size_t file_length, uint8_t *reply, size_t reply_room);
 
 /* Prices a case file, of either edition, at a multiplier, a price of energy in hundredths of the currency per MWh. Returns 0

@@ -447,7 +447,7 @@ static void explain_row(const struct site *s, size_t i, uint32_t refusal)
     if (refusal == SHAHFUREEL_ZONE_COUNT_INVALID) {
         complain_of_set(s, i, "it has more than four zones: join some of them\n");
     } else if (refusal == SHAHFUREEL_LIMITS_INVALID) {
-        complain_of_set(s, i, "least, the edges of the zones and greatest must rise, from 0.1 MW or more; they are");
+        complain_of_set(s, i, "least, the edges of the zones and greatest must rise, from 0.1 MW or more (a zone may start where the one before ends); they are");
         complain_of_steps(" ", row[LEAST], "");
         for (uint32_t e = 0; e < 2 * row[ZONES]; e++)
             complain_of_steps(" ", row[EDGES + e], "");

@@ -358,6 +358,36 @@ static void more_load(const uint8_t *lower, const uint8_t *higher, size_t file_l
     expect(shahfureel_reply_cost(reply) - shahfureel_reply_gap(reply) <= cost - gap, "dispatch", what);
 }
 
+/* U with zones from 4 to 7 and from 7 to 9: a row packed, unpacked again, dispatched and judged; and zones that do not fit */
+static void sharing_an_edge(size_t a)
+{
+    uint32_t row[ROW], back[NUMBERS];
+    uint8_t file[12 + 34];
+    int64_t told[4];
+    memcpy(row, U_ROW, sizeof row);
+    row[10] = 2;
+    row[13] = 7;
+    row[14] = 9;
+    expect(shahfureel_pack(7, row, ROW, file, sizeof file) == sizeof file, "pack", "a shared edge is accepted");
+    expect(shahfureel_unpack(file, sizeof file, back, NUMBERS, told, 2) == 0 && memcmp(back, row, sizeof row) == 0, "unpack",
+           "both edges come back");
+    expect(dispatch(file, sizeof file, a, BYTES) == sizeof U5_REPLY, "dispatch", "a shared edge is dispatched");
+    expect(shahfureel_reply_output(byte_space + GUARD + a, 0) == 7, "dispatch", "at the edge");
+    for (uint32_t output = 5; output <= 9; output++) {
+        expect(shahfureel_pack(5, row, ROW, file, sizeof file) == sizeof file, "pack", "a shared edge is accepted");
+        expect(shahfureel_judge(file, sizeof file, &output, 1, told, 4) == 0, "judge", "a shared edge is judged");
+        expect(told[0] == (output == 7 || output == 9), "judge", "7 and 9 alone are permitted from 5 to 9");
+    }
+    row[13] = 6;
+    expect(shahfureel_pack(7, row, ROW, file, sizeof file) == SHAHFUREEL_LIMITS_INVALID, "pack", "zones that overlap are 9");
+    row[13] = row[14] = 7;
+    expect(shahfureel_pack(7, row, ROW, file, sizeof file) == SHAHFUREEL_LIMITS_INVALID, "pack", "a zone without length is 9");
+    memcpy(row, U_ROW, sizeof row);
+    row[11] = 2;
+    expect(shahfureel_pack(7, row, ROW, file, sizeof file) == SHAHFUREEL_LIMITS_INVALID, "pack", "an edge at least is 9");
+}
+
+/* two pairs of demands */
 static void dispatching_loads(size_t a)
 {
     uint8_t higher[E2_BYTES];
@@ -370,6 +400,7 @@ static void dispatching_loads(size_t a)
 static void dispatching(size_t a)
 {
     dispatching_loads(a);
+    sharing_an_edge(a);
     standing_costs_nothing(a);
     dispatching_lowered(a);
     dispatching_edition_2(a);

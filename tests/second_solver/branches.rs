@@ -1,11 +1,11 @@
-//! What the counts of numbers do not tell apart: the branches of the rules on editions and on 18, and how often calls came to each of
+//! What the counts of numbers do not tell apart: the branches of the rules on editions, on 18 and on shared edges, and how often calls came to each of
 //! them and of those of `lowered`, `judged` and `floored`.
 
 use crate::calls::Call;
 use crate::floored;
 use crate::judged;
 use crate::lowered;
-use crate::solver::{self, Refused, Unit};
+use crate::solver::{self, Case, Refused, Unit};
 
 /// A call on a file, and the number of its refusal, or none.
 struct Seen<'a> {
@@ -16,7 +16,7 @@ struct Seen<'a> {
 
 type Branch = (&'static str, fn(&Seen) -> bool);
 
-const BRANCHES: [Branch; 34] = [
+const BRANCHES: [Branch; 42] = [
     ("edition 2 answered, b1 of all units 0", |seen| seen.answered(|units| units.iter().all(|unit| unit.b1 == 0))),
     ("edition 2 answered, a b1 below 0", |seen| seen.answered_with(|unit| unit.b1 < 0)),
     ("edition 2 answered, a b1 above 0", |seen| seen.answered_with(|unit| unit.b1 > 0)),
@@ -51,7 +51,25 @@ const BRANCHES: [Branch; 34] = [
     ("unpacking edition 2: 3 before 5", |seen| seen.unpacked_2() && seen.verdict() == Some(5)),
     ("unpacking edition 2: 3 before 6", |seen| seen.unpacked_2() && seen.verdict() == Some(6)),
     ("unpacking edition 2: 3 before 18", |seen| seen.unpacked_2() && seen.verdict() == Some(18)),
+    ("answered, two zones that share an edge", |seen| seen.shares(1, |unit| unit.zones.len() == 2)),
+    ("answered, three zones that share two edges", |seen| seen.shares(2, |unit| unit.zones.len() == 3)),
+    ("answered, four zones that share three edges", |seen| seen.shares(3, |unit| unit.zones.len() == 4)),
+    ("answered, a shared edge alone in the ramp window", |seen| seen.shares(1, |unit| window_of_a_shared_edge(unit))),
+    ("answered, a shared edge outside the ramp window", |seen| seen.shares(1, |unit| shared_edge_cut_off(unit))),
+    ("edition 2 answered, a shared edge", |seen| seen.edition() == Some(2) && seen.shares(1, |_| true)),
+    ("unpacked, a shared edge", |seen| seen.unpacking && seen.shares(1, |_| true)),
+    ("dispatched, a unit at a shared edge", |seen| !seen.unpacking && seen.gives_a_shared_edge()),
 ];
+
+fn window_of_a_shared_edge(unit: &Unit) -> bool {
+    let running: Vec<i128> = solver::offers(unit).iter().map(|offer| offer.output).filter(|output| *output > 0).collect();
+    unit.previous > 0 && running.len() == 1 && solver::shared_edges(unit).contains(&running[0])
+}
+
+fn shared_edge_cut_off(unit: &Unit) -> bool {
+    let outputs: Vec<i128> = solver::offers(unit).iter().map(|offer| offer.output).collect();
+    solver::shared_edges(unit).iter().any(|edge| !outputs.contains(edge))
+}
 
 fn slope(unit: &Unit) -> i128 {
     unit.b1 + 19_999 * unit.b
@@ -102,6 +120,20 @@ impl Seen<'_> {
 
     fn answered_with(&self, condition: fn(&Unit) -> bool) -> bool {
         self.answered(|units| units.iter().any(condition))
+    }
+
+    /// Whether the call was answered and a unit of the file has so many shared edges, and more that is asked.
+    fn shares(&self, edges: usize, condition: fn(&Unit) -> bool) -> bool {
+        let asked = |unit: &Unit| solver::shared_edges(unit).len() >= edges && condition(unit);
+        self.number.is_none() && solver::decode(self.file).map_or(false, |case| case.units.iter().any(asked))
+    }
+
+    fn gives_a_shared_edge(&self) -> bool {
+        let gives = |case: &Case| {
+            let outputs = solver::solve(case).map_or(Vec::new(), |reply| reply.outputs);
+            case.units.iter().zip(outputs).any(|(unit, output)| solver::shared_edges(unit).contains(&output))
+        };
+        self.shares(1, |_| true) && solver::decode(self.file).map_or(false, |case| gives(&case))
     }
 
     fn unpacked_2(&self) -> bool {

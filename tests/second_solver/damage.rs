@@ -204,6 +204,9 @@ pub fn wrong_contents(random: &mut Random, edition: i128) -> Vec<Call> {
     files.extend([swapped_entries(&file), shifted_end_of_first_body(&file), unit_more_than_bodies(&file)]);
     files.push(with_gap_before(&file, unit));
     files.extend([22, 25, 26, 27, 28, 30, 46, 50].map(|length| with_last_body_of(&file, length)));
+    // the shortest body of edition 1 and the longest of edition 2, alone in their files
+    let alone = solver::encode(&Case { units: vec![case.units[unit].clone()], ..case });
+    files.extend([26, 46].map(|length| with_last_body_of(&alone, length)));
     files.iter().flat_map(|file| calls_of_file(file, random)).collect()
 }
 

@@ -28,7 +28,7 @@ struct Asked<'a> {
 
 type Branch = (&'static str, fn(&Seen) -> bool);
 
-pub const BRANCHES: [Branch; 82] = [
+pub const BRANCHES: [Branch; 83] = [
     ("floors for no demand", |seen| seen.answered(|_| seen.demands.is_empty())),
     ("floors for 1 demand", |seen| seen.answered(|_| seen.demands.len() == 1)),
     ("floors for 96 demands", |seen| seen.answered(|_| seen.demands.len() == 96)),
@@ -41,6 +41,9 @@ pub const BRANCHES: [Branch; 82] = [
     ("floors of 32 units", |seen| seen.asked(|asked| asked.solved.case.units.len() == 32)),
     ("floors of edition 2, a b1 that is not 0", |seen| {
         seen.asked(|asked| asked.solved.case.units.iter().any(|unit| unit.b1 != 0))
+    }),
+    ("floors of a unit whose zones share an edge", |seen| {
+        seen.asked(|asked| asked.solved.case.units.iter().any(|unit| !solver::shared_edges(unit).is_empty()))
     }),
     ("floors of a case with demand 0", |seen| seen.asked(|asked| asked.solved.case.demand == 0)),
     ("floors of a case at capacity", |seen| seen.asked(|asked| !asked.solved.covers(asked.solved.case.demand + 1))),

@@ -44,6 +44,7 @@ pub fn accepted_kinds() -> Vec<Kind> {
         kind("zones-at-edges", 6, |random| zones_at_edges(random, 1)),
         kind("four-zones", 3, |random| four_zones(random, 1)),
         kind("ramps-that-cut-zones", 8, |random| ramps_that_cut_zones(random, 1)),
+        kind("shared-edges", 10, |random| shared_edges(random, 1)),
         kind("zero-coefficients", 2, |random| zero_coefficients(random, 1)),
         kind("greatest-coefficients", 3, |random| greatest_coefficients(random, 1)),
         kind("demand-at-capacity", 3, |random| demand_at_capacity(random, 1)),
@@ -64,6 +65,7 @@ pub fn accepted_kinds() -> Vec<Kind> {
         kind("edition-2-zones-at-edges", 4, |random| zones_at_edges(random, 2)),
         kind("edition-2-four-zones", 2, |random| four_zones(random, 2)),
         kind("edition-2-ramps-that-cut-zones", 4, |random| ramps_that_cut_zones(random, 2)),
+        kind("edition-2-shared-edges", 6, |random| shared_edges(random, 2)),
         kind("edition-2-zero-coefficients", 2, |random| zero_coefficients(random, 2)),
         kind("edition-2-greatest-coefficients", 3, |random| greatest_coefficients(random, 2)),
         kind("edition-2-demand-at-capacity", 3, |random| demand_at_capacity(random, 2)),
@@ -299,7 +301,7 @@ fn table(random: &mut Random) -> Vec<Call> {
 }
 
 fn further_vectors(random: &mut Random) -> Vec<Call> {
-    let vectors = [vectors::further(), vectors::lowered()];
+    let vectors = [vectors::further(), vectors::lowered(), vectors::shared_edges()];
     vectors.iter().flatten().flat_map(|vector| calls_of_case(&vector.case, random)).collect()
 }
 
@@ -478,7 +480,7 @@ fn single_point_windows(random: &mut Random, edition: i128) -> Vec<Call> {
     calls_of_case(&case, random)
 }
 
-/// Zones that leave the least distance to the limits and to each other, and zones with nothing strictly inside.
+/// Zones one step from the limits, and zones with nothing strictly inside.
 fn zones_at_edges(random: &mut Random, edition: i128) -> Vec<Call> {
     let count = random.pick(&[1, 2, 3, 4]);
     let mut units: Vec<Unit> = (0..2).map(|_| unit(random, edition, 1, 2, count)).collect();
@@ -501,6 +503,38 @@ fn four_zones(random: &mut Random, edition: i128) -> Vec<Call> {
         calls.push(Call::Price { multiplier: near_a_tie(&case, random), file });
     }
     calls
+}
+
+/// Units of two to four zones of which neighbours share edges, with ramp windows about these; and one that overlaps by a step.
+fn shared_edges(random: &mut Random, edition: i128) -> Vec<Call> {
+    let mut units = Vec::new();
+    for _ in 0..2 {
+        let (step, zones) = (random.pick(&[1, 2, 3, 5]), random.pick(&[2, 2, 3, 4]));
+        let mut unit = unit(random, edition, 1, step, zones);
+        share_edges(&mut unit, random);
+        if random.chance(2) {
+            let edge = random.pick(&solver::limits_and_edges(&unit));
+            let [below, above] = [random.pick(&[0, 0, 1, 2]), random.pick(&[0, 0, 1, 2])];
+            set_window(&mut unit, [(edge - below).max(1), edge, edge + above]);
+        }
+        units.push(unit);
+    }
+    let case = with_demand(units, edition, random);
+    let mut calls = calls_of_case(&case, random);
+    let mut overlapping = case;
+    overlapping.units[0].zones[1].0 = overlapping.units[0].zones[0].1 - 1;
+    calls.extend(calls_of_case(&overlapping, random));
+    calls
+}
+
+/// Lets some neighbouring zones, or all, share an edge.
+fn share_edges(unit: &mut Unit, random: &mut Random) {
+    let all = random.chance(2);
+    for zone in 1..unit.zones.len() {
+        if all || random.chance(2) {
+            unit.zones[zone - 1].1 = unit.zones[zone].0;
+        }
+    }
 }
 
 pub fn ramps_that_cut_zones(random: &mut Random, edition: i128) -> Vec<Call> {

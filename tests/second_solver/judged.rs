@@ -14,7 +14,7 @@ pub struct Seen<'a> {
 
 type Branch = (&'static str, fn(&Seen) -> bool);
 
-pub const BRANCHES: [Branch; 50] = [
+pub const BRANCHES: [Branch; 52] = [
     ("accepted, dispatch's own outputs", |seen| seen.accepted(|_, reply| seen.given() == reply.outputs)),
     ("accepted, dispatch's own outputs, some of them lowered", |seen| {
         seen.accepted(|_, reply| seen.given() == reply.outputs && seen.unlowered.as_ref() != Some(&reply.outputs))
@@ -35,6 +35,10 @@ pub const BRANCHES: [Branch; 50] = [
     ("accepted, a greatest output", |seen| seen.accepted_with(|unit, p| p == unit.greatest)),
     ("accepted, a lower edge", |seen| seen.accepted_with(|unit, p| unit.zones.iter().any(|zone| p == zone.0))),
     ("accepted, an upper edge", |seen| seen.accepted_with(|unit, p| unit.zones.iter().any(|zone| p == zone.1))),
+    ("accepted, a shared edge", |seen| seen.accepted_with(|unit, p| solver::shared_edges(unit).contains(&p))),
+    ("not accepted, beside a shared edge", |seen| {
+        seen.wrong(|unit, p| solver::shared_edges(unit).iter().any(|edge| (edge - p).abs() == 1))
+    }),
     ("accepted, the lower end of a ramp window", |seen| seen.accepted_with(|unit, p| p > 0 && p == window(unit).0)),
     ("accepted, the upper end of a ramp window", |seen| seen.accepted_with(|unit, p| p > 0 && p == window(unit).1)),
     ("accepted, 0 below a ramp window", |seen| seen.accepted_with(|unit, p| p == 0 && window(unit).0 > 0)),

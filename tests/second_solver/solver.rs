@@ -150,10 +150,19 @@ pub fn decode_body(body: &[u8], edition: i128) -> Result<Unit, Refused> {
 fn check_unit(unit: &Unit) -> Result<(), Refused> {
     refuse_if(unit.c0 > 1_000_000_000 || unit.c1 > 10_000_000 || unit.c2 > 1_000 || unit.b > 5_000, 8)?;
     refuse_if(unit.b1.abs() > 10_000_000 || unit.b1 + 19_999 * unit.b >= 100_000_000, 18)?;
-    let limits = limits_and_edges(unit);
-    let rising = limits.windows(2).all(|pair| pair[0] < pair[1]);
-    refuse_if(unit.least < 1 || unit.greatest > 10_000 || !rising, 9)?;
+    refuse_if(unit.least < 1 || unit.least >= unit.greatest || unit.greatest > 10_000 || !zones_fit(unit), 9)?;
     refuse_if(unit.previous > 10_000 || unit.up > 10_000 || unit.down > 10_000 || unit.mark > 1, 10)
+}
+
+/// Whether the zones lie between the limits, each with its edges in order; neighbours may share an edge, and overlap nowhere.
+fn zones_fit(unit: &Unit) -> bool {
+    let between = |zone: &(i128, i128)| unit.least < zone.0 && zone.0 < zone.1 && zone.1 < unit.greatest;
+    unit.zones.iter().all(between) && unit.zones.windows(2).all(|pair| pair[0].1 <= pair[1].0)
+}
+
+/// The edges that two neighbouring zones of a unit share.
+pub fn shared_edges(unit: &Unit) -> Vec<i128> {
+    unit.zones.windows(2).filter(|pair| pair[0].1 == pair[1].0).map(|pair| pair[0].1).collect()
 }
 
 /// Least, the edges in order, greatest.

@@ -210,6 +210,44 @@ pub fn lowered() -> Vec<Vector> {
     ]
 }
 
+/// U with zones that share the edge 7.
+fn sharing() -> Unit {
+    Unit { zones: vec![(4, 7), (7, 9)], ..u() }
+}
+
+/// Zones that share an edge (rule 17.7): the edge is an output of its own, and its neighbours are prohibited.
+pub fn shared_edges() -> Vec<Vector> {
+    let with_zones = |zones: &[(i128, i128)]| Unit { zones: zones.to_vec(), ..u() };
+    let ramped = |previous, up, down| Unit { previous, up, down, mark: 1, ..sharing() };
+    vec![
+        // the edge refused or prohibited, passed over, or one of its neighbours permitted
+        replied(7, vec![sharing()], whole(vec![7], 119_000, 0, 15, 0)),
+        replied(5, vec![sharing()], whole(vec![7], 119_000, 42_000, 18, 200_000_000)),
+        replied(8, vec![sharing()], whole(vec![9], 171_000, 26_000, 18, 100_000_000)),
+        // no tie at the edge; the floor without it
+        replied(11, vec![sharing(); 2], whole(vec![4, 7], 175_000, 0, 18, 0)),
+        replied(13, vec![sharing(); 2], whole(vec![7, 7], 238_000, 21_000, 18, 100_000_000)),
+        // more than one shared edge; zones with nothing strictly inside
+        replied(7, vec![with_zones(&[(3, 5), (5, 7), (7, 9)])], whole(vec![7], 119_000, 0, 15, 0)),
+        replied(7, vec![with_zones(&[(3, 4), (4, 5), (5, 6), (6, 7)])], whole(vec![7], 119_000, 0, 15, 0)),
+        // the ramp window: of the edge alone, about it, beside it on either side
+        replied(0, vec![ramped(7, 0, 0)], whole(vec![7], 119_000, 0, 1, 700_000_000)),
+        replied(0, vec![ramped(7, 1, 1)], whole(vec![7], 119_000, 0, 1, 700_000_000)),
+        replied(0, vec![ramped(9, 1, 1)], whole(vec![9], 171_000, 0, 1, 900_000_000)),
+        refused(0, vec![ramped(5, 1, 0)], 11),
+        // 9 as before
+        refused(5, vec![with_zones(&[(4, 7), (7, 7)])], 9),
+        refused(5, vec![with_zones(&[(2, 4), (4, 7)])], 9),
+        refused(5, vec![with_zones(&[(4, 7), (7, 10)])], 9),
+        refused(5, vec![with_zones(&[(4, 7), (6, 9)])], 9),
+        refused(5, vec![with_zones(&[(4, 7), (7, 9), (8, 9)])], 9),
+        refused(5, vec![with_zones(&[(7, 9), (4, 7)])], 9),
+        // the numbers before and after it
+        refused(5, vec![Unit { mark: 2, ..sharing() }], 10),
+        refused(5, vec![Unit { c0: 1_000_000_001, ..sharing() }], 8),
+    ]
+}
+
 /// U with only a c0, so large that at 65,536 it is as well off standing as at 10.
 pub fn starting_at_65_536() -> Unit {
     Unit { c0: 655_360_000, c1: 0, c2: 0, ..u() }
@@ -227,6 +265,8 @@ pub fn edition_2() -> Vec<Vector> {
         // b1 left out of the net, or taken with the other sign
         replied(5, vec![with_b1(-10_000_000)], whole(vec![7], 119_000, 51_600, 18, 270_000_000)),
         replied(5, vec![with_b1(10_000_000)], whole(vec![7], 119_000, 30_800, 18, 130_000_000)),
+        // zones that share an edge
+        replied(7, vec![Unit { b1: 10_000_000, ..sharing() }], whole(vec![9], 171_000, 31_900, 18, 110_000_000)),
         // a net above the output
         replied(11, vec![with_b1(-10_000_000)], whole(vec![10], 200_000, 0, 2, 0)),
         // b1 read as an unsigned number
@@ -364,6 +404,10 @@ pub fn judgements() -> Vec<Judgement> {
         judgement(5, &[u()], &[], too_many_or_few),
         judgement(5, &[u()], &[7, 7], too_many_or_few),
         judgement(5, &u_and_u, &[7], too_many_or_few),
+        // a shared edge, and its neighbours
+        judgement(7, &[sharing()], &[7], accepted(119_000, 0, 0)),
+        judgement(5, &[sharing()], &[6], not_accepted),
+        judgement(5, &[sharing()], &[8], not_accepted),
         judgement(11, &[u()], &[], nothing_covers),
         judgement(11, &[u()], &[10], nothing_covers),
         // two units: dispatch's own 2 and 3, the same the other way round, and the choices before they are lowered
@@ -464,6 +508,8 @@ pub fn floorings() -> Vec<Flooring> {
     vec![
         // U: its own demand and others; 0 is best for demand 0 and 65,536 for 320,000, neither of them evaluated last
         flooring(5, &[u()], &[0, 5, 7, 10, 320_000], &[0, 77_000, 119_000, 200_000, 20_970_864_840_000]),
+        // zones that share an edge
+        flooring(7, &[sharing()], &[5, 7, 8], &[71_000, 119_000, 143_000]),
         // each demand up to 12: below the case's own and above, also where nothing covers; 2 has less than its own dispatch proves
         flooring(
             5,
@@ -596,7 +642,7 @@ pub fn check() -> usize {
         assert_eq!(solver::price(&u5, multiplier), Ok(Priced { dual, covered }), "U5 priced at {}", multiplier);
     }
     check_views();
-    let vectors: Vec<Vector> = table().into_iter().chain(further()).chain(lowered()).chain(edition_2()).collect();
+    let vectors: Vec<Vector> = table().into_iter().chain(further()).chain(lowered()).chain(shared_edges()).chain(edition_2()).collect();
     for vector in &vectors {
         check_vector(vector);
     }

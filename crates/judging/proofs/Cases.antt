@@ -15,7 +15,7 @@ use Rattle.rules.specs.Problem.{allocation, totalCost, totalNet, offer, problem
 use Rattle.rules.specs.Choice.{pricedCost, preferredFrom, preferred, choices, lowered, selected, dualValue, floor, greatestFloor}
 use Rattle.rules.specs.Bisection.{step4, step3, search, greatestOutputs, solvable, found}
 use Rattle.rules.specs.Calls.{caseVerdict}
-use Rattle.rules.specs.CaseFiles.{u5, site, site2, shortHead, otherEdition, noUnit, demandAbove, byteTooMany, noZone, linearCostAbove, edgeAtLeast, otherMark, withLinearLoss, U, lossy, marked, costing}
+use Rattle.rules.specs.CaseFiles.{u5, site, site2, shortHead, otherEdition, noUnit, demandAbove, byteTooMany, noZone, linearCostAbove, edgeAtLeast, otherMark, withLinearLoss, U, lossy, marked, costing, sharedEdgeFile}
 use Rattle.rules.specs.declared.Refusal.the-variants.{BufferTooShort}
 use Rattle.rules.specs.declared.Verdict.{Verdict}
 use Rattle.rules.proofs.Verdicts.{then-accepted}
@@ -58,7 +58,7 @@ abbrev computed : Row → Judged
 computed r = endsByEvaluated (judgeVerdict (r .file) (r .outputs)) (r .file) (r .outputs)
 
 judgements-compute : map computed judgements ≡ map (λ r. r .answer) judgements
-unfolding judgements endsByEvaluated toldByEvaluated judgeVerdict acceptable numberAfter signed bytes bytesOfEach zones edgeOfBody unitOfBody bodyOfUnit caseOf contentsFrom bodiesOf fileOf editionVerdict headVerdict contentsVerdict zonesAscend unitVerdict bodyVerdict fileVerdict permitted cost linearFactor net totalCost totalNet offer problemOf pricedCost preferredFrom preferred total choices lowered selected dualValue dividedUp floor greatestAt step4 step3 search greatestOutputs solvable found natural caseVerdict allocation u5 site site2 shortHead otherEdition noUnit demandAbove byteTooMany noZone linearCostAbove edgeAtLeast otherMark withLinearLoss U lossy marked costing fourZones
+unfolding judgements endsByEvaluated toldByEvaluated judgeVerdict acceptable numberAfter signed bytes bytesOfEach zones edgeOfBody unitOfBody bodyOfUnit caseOf contentsFrom bodiesOf fileOf editionVerdict headVerdict contentsVerdict zonesAscend unitVerdict bodyVerdict fileVerdict permitted cost linearFactor net totalCost totalNet offer problemOf pricedCost preferredFrom preferred total choices lowered selected dualValue dividedUp floor greatestAt step4 step3 search greatestOutputs solvable found natural caseVerdict allocation u5 site site2 shortHead otherEdition noUnit demandAbove byteTooMany noZone linearCostAbove edgeAtLeast otherMark withLinearLoss U lossy marked costing fourZones sharedEdgeFile
 judgements-compute = refl
 
 pub judgements-hold : map (λ r. judged (r .file) (r .outputs)) judgements ≡ map (λ r. r .answer) judgements

@@ -4,7 +4,7 @@ use mathlib.Core.List.{List, [], _∷_}
 use lib.IntN.{ℤ, pos, negℤ}
 use Rattle.rules.specs.Unit.{Unit}
 use Rattle.rules.specs.Layout.{fileOf}
-use Rattle.rules.specs.CaseFiles.{u5, site, site2, put, shortHead, otherEdition, noUnit, demandAbove, byteTooMany, noZone, linearCostAbove, edgeAtLeast, otherMark, withLinearLoss, U, lossy, marked, costing}
+use Rattle.rules.specs.CaseFiles.{u5, site, site2, put, shortHead, otherEdition, noUnit, demandAbove, byteTooMany, noZone, linearCostAbove, edgeAtLeast, otherMark, withLinearLoss, U, lossy, marked, costing, sharedEdgeFile}
 use Rattle.rules.specs.declared.Refusal.the-variants.{
   FileTooShort,
   EditionUnknown,
@@ -43,6 +43,11 @@ judgements =
     ∷ record { file = fileOf 4 (U ∷ []); outputs = 4 ∷ []; answer = Judged.Accepted 56000 0 0 }
     -- an upper edge taken as prohibited
     ∷ record { file = fileOf 7 (U ∷ []); outputs = 7 ∷ []; answer = Judged.Accepted 119000 0 0 }
+    -- an edge that two zones share taken as prohibited
+    ∷ record { file = sharedEdgeFile 7; outputs = 7 ∷ []; answer = Judged.Accepted 119000 0 0 }
+    -- its neighbours taken as permitted
+    ∷ record { file = sharedEdgeFile 5; outputs = 6 ∷ []; answer = Judged.NotAccepted }
+    ∷ record { file = sharedEdgeFile 5; outputs = 8 ∷ []; answer = Judged.NotAccepted }
     -- the last step before cover taken for it
     ∷ record { file = fileOf 10 (U ∷ []); outputs = 9 ∷ []; answer = Judged.NotAccepted }
     -- the greatest output prohibited

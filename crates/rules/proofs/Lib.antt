@@ -8,6 +8,7 @@ pub mod Economics
 pub mod Regions
 pub mod Obeyed
 pub mod Rising
+pub mod SharedEdges
 pub mod Demand3
 pub mod Saving
 pub mod Replied

@@ -13,7 +13,7 @@ use lib.Seq.{getD-drop}
 use lib.Signed.{_<ℤ_}
 use borrow.Author.Tests.{eqb-true, eq-eqb}
 use Rattle.rules.specs.Unit.{Unit, Zone, zoneAt, zones}
-use Rattle.rules.specs.Refusal.{zonesAscend, unusedEdgesZero, lossesOutOfRange, unitVerdict}
+use Rattle.rules.specs.Refusal.{zonesAscend, startsAbove, unusedEdgesZero, lossesOutOfRange, unitVerdict}
 use Rattle.rules.specs.Losses.{LinearLossInRange}
 use Rattle.rules.specs.declared.Verdict.the-variants.{Accepted}
 use Rattle.rules.proofs.Lists.{Every, every-from, each-every, every-more, all-every}
@@ -41,6 +41,7 @@ pub record Sound (u : Unit) : Type 0 where
   pub least : 1 ≤ u .least
   pub range : u .least < u .greatest
   pub greatest : u .greatest ≤ 10000
+  pub above : startsAbove (u .least) (zones u) ≡ true
   pub ascend : zonesAscend (u .least) (zones u) (u .greatest) ≡ true
   pub previous : u .previous ≤ 10000
   pub up : u .up ≤ 10000
@@ -72,7 +73,7 @@ module _ (u : Unit) where
   pub sound : unitVerdict u ≡ Accepted → Sound u
   unfolding unitVerdict
   sound e =
-      let ((zones, unused), ((((c0, c1), c2), b), (((loss-least, loss-greatest), rises), ((((least, range), greatest), ascend), (((previous, up), down), mark))))) = simp accepts at e in
+      let ((zones, unused), ((((c0, c1), c2), b), (((loss-least, loss-greatest), rises), ((((least, range), greatest), (above, ascend)), (((previous, up), down), mark))))) = simp accepts at e in
       record {
         zoneCount = zones;
         unused = unused-zero unused;
@@ -84,6 +85,7 @@ module _ (u : Unit) where
         least = least;
         range = range;
         greatest = greatest;
+        above = above;
         ascend = ascend;
         previous = previous;
         up = up;
@@ -100,7 +102,7 @@ module _ (u : Unit) where
           (((s .c0, s .c1), s .c2), s .b),
           (
             ((s .losses .range .least, s .losses .range .greatest), s .losses .rises),
-            ((((s .least, s .range), s .greatest), s .ascend), (((s .previous, s .up), s .down), s .mark)),
+            ((((s .least, s .range), s .greatest), (s .above, s .ascend)), (((s .previous, s .up), s .down), s .mark)),
           ),
         ),
       )
@@ -109,12 +111,12 @@ module _ (u : Unit) where
 
 -- a zone lies between two outputs
 pub record ZoneBetween (low : ℕ) (z : Zone) (high : ℕ) : Type 0 where
-  pub least : low < z .lower
+  pub least : low ≤ z .lower
   pub order : z .lower < z .upper
   pub greatest : z .upper < high
 
 -- the first zone, and those behind it
-pub zone-parts : (low high : ℕ) (z : Zone) (zs : List Zone) → zonesAscend low (z ∷ zs) high ≡ true → (low < z .lower) × (z .lower < z .upper) × (zonesAscend (z .upper) zs high ≡ true)
+pub zone-parts : (low high : ℕ) (z : Zone) (zs : List Zone) → zonesAscend low (z ∷ zs) high ≡ true → (low ≤ z .lower) × (z .lower < z .upper) × (zonesAscend (z .upper) zs high ≡ true)
 unfolding zonesAscend
 zone-parts low high z zs e = let ((first, order), later) = simp accepts at e in (first, order, later)
 
@@ -140,10 +142,10 @@ module _ {u : Unit} (s : Sound u) where
       (ascending (u .least) (u .greatest) (zones u) (s .ascend) .1) k h
 
   -- an edge in use lies between least and greatest
-  pub edge-between : (k : ℕ) → k < 2 * u .zoneCount → (u .least < getD (u .edges) k 0) × (getD (u .edges) k 0 < u .greatest)
+  pub edge-between : (k : ℕ) → k < 2 * u .zoneCount → (u .least ≤ getD (u .edges) k 0) × (getD (u .edges) k 0 < u .greatest)
   edge-between k h = by (k % 2) refl
     where
-      by : (r : ℕ) → k % 2 ≡ r → (u .least < getD (u .edges) k 0) × (getD (u .edges) k 0 < u .greatest)
+      by : (r : ℕ) → k % 2 ≡ r → (u .least ≤ getD (u .edges) k 0) × (getD (u .edges) k 0 < u .greatest)
       by zero e = let lower : k ≡ 2 * (k / 2) = omega arith in rw lower (omega (arith, zone-between (k / 2) (omega arith)))
       by (suc zero) e = let upper : k ≡ 2 * (k / 2) + 1 = omega arith in rw upper (omega (arith, zone-between (k / 2) (omega arith)))
       by (suc (suc r)) e = absurd (omega arith)

@@ -189,9 +189,9 @@ costing c0 c1 c2 mark =
       edges = 4 ∷ 7 ∷ 0 ∷ 0 ∷ 0 ∷ 0 ∷ 0 ∷ 0 ∷ [];
     }
 
--- U up to 20, with zones 4 to 7 and 7 to 9
-unfoldable pub sharedEdge : Unit
-sharedEdge =
+-- U with other zones, and with another ramp and mark
+unfoldable pub withZones : ℕ → List ℕ → ℕ → ℕ → ℕ → ℕ → Unit
+withZones z edges previous up down mark =
     record {
       c0 = 0;
       c1 = 10000;
@@ -199,11 +199,18 @@ sharedEdge =
       b = 0;
       b1 = pos 0;
       least = 2;
-      greatest = 20;
-      previous = 0;
-      up = 0;
-      down = 0;
-      mark = 0;
-      zoneCount = 2;
-      edges = 4 ∷ 7 ∷ 7 ∷ 9 ∷ 0 ∷ 0 ∷ 0 ∷ 0 ∷ [];
+      greatest = 10;
+      previous = previous;
+      up = up;
+      down = down;
+      mark = mark;
+      zoneCount = z;
+      edges = edges;
     }
+
+-- U with zones 4 to 7 and 7 to 9; and its file for a demand of one byte, its last ten bytes written out
+unfoldable pub sharedEdge : Unit
+sharedEdge = withZones 2 (4 ∷ 7 ∷ 7 ∷ 9 ∷ 0 ∷ 0 ∷ 0 ∷ 0 ∷ []) 0 0 0 0
+
+unfoldable pub sharedEdgeFile : ℕ → List ℕ
+sharedEdgeFile d = take 36 (put 7 (d ∷ []) (put 10 (0x00 ∷ 0x22 ∷ []) u5)) ++ (0x00 ∷ 0x02 ∷ 0x00 ∷ 0x04 ∷ 0x00 ∷ 0x07 ∷ 0x00 ∷ 0x07 ∷ 0x00 ∷ 0x09 ∷ [])

@@ -11,6 +11,7 @@ pub mod Stages
 pub mod Calls
 pub mod Undoing
 pub mod Losses
+pub mod SharedEdges
 pub mod Promise
 pub mod Loads
 pub mod Lowering
@@ -21,3 +22,4 @@ pub mod TableOfRefusals
 pub mod TableOfEditions
 pub mod TableOfLowering
 pub mod TableOfLoads
+pub mod TableOfSharedEdges

@@ -1,6 +1,6 @@
 -- Rules 4.1 to 4.10 of docs/SPECIFICATION.md: the refusals, their numbers, and the checks of a file and of a unit in their order. (The order of each call as a whole is in `Calls`, in `modbus/specs/View`, `judging/specs/Judging` and `sensitivity/specs/Floors`.)
 use Prim.Native.Nat.{ℕ, zero, suc, _+_, _*_}
-use mathlib.Core.Bool.{Bool, cond, not, _&&_, _||_}
+use mathlib.Core.Bool.{Bool, true, cond, not, _&&_, _||_}
 use mathlib.Core.List.{List, [], _∷_}
 use lib.Dec.{ltb, leb, eqb}
 use lib.IntN.{pos, negℤ, _+ℤ_}
@@ -115,10 +115,18 @@ contentsVerdict file =
 
 -- ---- body, unit by unit (rules 4.4 to 4.6). Files and rows share these checks: a row has no length, and may have an unused edge that is not zero.
 
--- (rule 2.8) from the lower limit through the edges to the upper limit, each number is above the one before
+-- (rule 2.8, since S-13) zones from a number on: each upper edge is above its lower edge, the next lower edge is no lower (two zones may share an edge), and the last upper edge is below the upper limit
 unfoldable pub zonesAscend : ℕ → List Zone → ℕ → Bool
-zonesAscend below [] above = ltb below above
-zonesAscend below (z ∷ zs) above = ltb below (z .lower) && ltb (z .lower) (z .upper) && zonesAscend (z .upper) zs above
+zonesAscend from [] above = ltb from above
+zonesAscend from (z ∷ zs) above = leb from (z .lower) && ltb (z .lower) (z .upper) && zonesAscend (z .upper) zs above
+
+-- the first lower edge is above the lower limit
+abbrev pub startsAbove : ℕ → List Zone → Bool
+startsAbove least [] = true
+startsAbove least (z ∷ zs) = ltb least (z .lower)
+
+abbrev pub zonesFit : ℕ → List Zone → ℕ → Bool
+zonesFit least zs greatest = startsAbove least zs && zonesAscend least zs greatest
 
 abbrev pub unusedEdgesZero : Unit → Bool
 unusedEdgesZero u = all (λ e. eqb e 0) (drop (2 * u .zoneCount) (u .edges))
@@ -138,7 +146,7 @@ lossesOutOfRange u =
 abbrev pub limitsInvalid : Unit → Bool
 limitsInvalid u =
     not (leb 1 (u .least) && ltb (u .least) (u .greatest) && leb (u .greatest) 10000
-    && zonesAscend (u .least) (zones u) (u .greatest))
+    && zonesFit (u .least) (zones u) (u .greatest))
 
 abbrev pub rampOrMarkOutOfRange : Unit → Bool
 rampOrMarkOutOfRange u = ltb 10000 (u .previous) || ltb 10000 (u .up) || ltb 10000 (u .down) || ltb 1 (u .mark)

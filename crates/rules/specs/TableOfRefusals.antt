@@ -4,7 +4,7 @@ use mathlib.Core.Path.{_≡_, refl}
 use lib.ListN.{replicate, take}
 use Rattle.rules.specs.Layout.{fileOf}
 use Rattle.rules.specs.Cases.{Row, answer, buffer, dispatch, price, pack, check, dispatchInto, packInto, unpackInto, writes, refuses, checks}
-use Rattle.rules.specs.CaseFiles.{u5, site, rowOfU, rowsOfSite, atLimits, put, copies, shortHead, otherEdition, noUnit, demandAbove, byteTooMany, noZone, linearCostAbove, edgeAtLeast, otherMark, rowsBuffer, U, zoned, sharedEdge}
+use Rattle.rules.specs.CaseFiles.{u5, site, rowOfU, rowsOfSite, atLimits, put, copies, shortHead, otherEdition, noUnit, demandAbove, byteTooMany, noZone, linearCostAbove, edgeAtLeast, otherMark, rowsBuffer, U, zoned}
 
 unfoldable pub limits : List Row
 limits =
@@ -40,8 +40,6 @@ limits =
     ∷ record { call = check (put 34 (0x00 ∷ 0x02 ∷ []) atLimits); result = checks 10 }
     -- a zone without length
     ∷ record { call = check (put 40 (0x00 ∷ 0x02 ∷ []) atLimits); result = checks 9 }
-    -- zones that share an edge
-    ∷ record { call = check (fileOf 5 (sharedEdge ∷ [])); result = checks 9 }
     -- an upper edge not held against greatest
     ∷ record { call = check (fileOf 5 (zoned 4 10 ∷ [])); result = checks 9 }
     -- least not held against greatest where there is no zone
@@ -215,7 +213,7 @@ orders =
     ∷ []
 
 pub limits-hold : map (λ r. answer (r .call)) limits ≡ map (λ r. r .result) limits
-unfolding answer limits u5 site atLimits rowOfU U zoned sharedEdge
+unfolding answer limits u5 site atLimits rowOfU U zoned
 limits-hold = refl
 
 pub refusals-hold : map (λ r. answer (r .call)) refusals ≡ map (λ r. r .result) refusals

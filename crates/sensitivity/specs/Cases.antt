@@ -14,7 +14,7 @@ use Rattle.rules.specs.Problem.{totalCost, totalNet, offer, problemOf}
 use Rattle.rules.specs.Choice.{pricedCost, preferredFrom, preferred, choices, lowered, selected, dualValue}
 use Rattle.rules.specs.Bisection.{step4, step3, search, greatestOutputs, solvable, found}
 use Rattle.rules.specs.Calls.{caseVerdict}
-use Rattle.rules.specs.CaseFiles.{u5, site, shortHead, otherEdition, noUnit, demandAbove, byteTooMany, noZone, linearCostAbove, edgeAtLeast, otherMark, put, withLinearLoss, U, lossy, marked, costing, priced-at}
+use Rattle.rules.specs.CaseFiles.{u5, site, shortHead, otherEdition, noUnit, demandAbove, byteTooMany, noZone, linearCostAbove, edgeAtLeast, otherMark, put, withLinearLoss, U, lossy, marked, costing, priced-at, sharedEdgeFile}
 use Rattle.sensitivity.specs.declared.Floored.{Floored}
 use Rattle.sensitivity.specs.Floors.{dualFor, floorFor, floorsVerdict, floorsEnd, floored, panelFloored}
 
@@ -65,6 +65,8 @@ forecasts =
     written u5 (0 ∷ 5 ∷ 7 ∷ 10 ∷ 320000 ∷ []) (0 ∷ 77000 ∷ 119000 ∷ 200000 ∷ 20970864840000 ∷ [])
     -- the difference of the demands the wrong way round, or without its sign; a new search for each demand, which has 24,000 for 2
     ∷ written u5 (each 13 (λ k. k)) (0 ∷ 7000 ∷ 23000 ∷ 39000 ∷ 56000 ∷ 77000 ∷ 98000 ∷ 119000 ∷ 143000 ∷ 168000 ∷ 200000 ∷ 65736000 ∷ 131272000 ∷ [])
+    -- an edge that two zones share left out of the floors
+    ∷ written (sharedEdgeFile 7) (5 ∷ 7 ∷ 8 ∷ []) (71000 ∷ 119000 ∷ 143000 ∷ [])
     -- floors sorted, or repeated demands left out
     ∷ written u5 (10 ∷ 0 ∷ 7 ∷ 7 ∷ 5 ∷ 0 ∷ 10 ∷ []) (200000 ∷ 0 ∷ 119000 ∷ 119000 ∷ 77000 ∷ 0 ∷ 200000 ∷ [])
     -- places behind the floors touched
@@ -168,7 +170,7 @@ refusals =
     ∷ []
 
 pub forecasts-hold : map (λ r. answer (r .call)) forecasts ≡ map (λ r. r .result) forecasts
-unfolding answer forecasts floored floorsVerdict floorsEnd floorFor dualFor numberAfter signed bytes bytesOfEach zones edgeOfBody unitOfBody bodyOfUnit caseOf contentsFrom bodiesOf fileOf editionVerdict headVerdict contentsVerdict zonesAscend unitVerdict bodyVerdict fileVerdict permitted cost linearFactor net totalCost totalNet offer problemOf pricedCost preferredFrom preferred total choices lowered selected dualValue dividedUp greatestAt step4 step3 search greatestOutputs solvable found natural caseVerdict u5 site withLinearLoss U lossy marked costing priced-at
+unfolding answer forecasts floored floorsVerdict floorsEnd floorFor dualFor numberAfter signed bytes bytesOfEach zones edgeOfBody unitOfBody bodyOfUnit caseOf contentsFrom bodiesOf fileOf editionVerdict headVerdict contentsVerdict zonesAscend unitVerdict bodyVerdict fileVerdict permitted cost linearFactor net totalCost totalNet offer problemOf pricedCost preferredFrom preferred total choices lowered selected dualValue dividedUp greatestAt step4 step3 search greatestOutputs solvable found natural caseVerdict u5 site withLinearLoss U lossy marked costing priced-at sharedEdgeFile
 forecasts-hold = refl
 
 pub refusals-hold : map (λ r. answer (r .call)) refusals ≡ map (λ r. r .result) refusals

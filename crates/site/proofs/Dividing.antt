@@ -211,7 +211,7 @@ module _ {u : Unit} {start : ℕ} {before ends : List ℕ} {next from k low high
     ascend : zonesAscend from (z ∷ zs) (u .greatest) ≡ true
     ascend = rw (next-zone u k l) at (d .ascend)
 
-    ordered : (from < z .lower) × (z .lower < z .upper) × (zonesAscend (z .upper) zs (u .greatest) ≡ true)
+    ordered : (from ≤ z .lower) × (z .lower < z .upper) × (zonesAscend (z .upper) zs (u .greatest) ≡ true)
     ordered = zone-parts from (u .greatest) z zs ascend
 
     held-here : heldFrom ends start (next - start) ++ leftOf u (record { low = from; high = t .end } ∷ intervals (z .upper) zs (u .greatest)) ≡ regions u

@@ -6,7 +6,7 @@ ghost use lib.Dec.{eqb};
 ghost use lib.ListN.{drop};
 ghost use Rattle.rules.specs.Lists.{all};
 ghost use Rattle.rules.specs.Unit.{zones};
-ghost use Rattle.rules.specs.Refusal.{zonesAscend, zoneCountInvalid, coefficientOutOfRange, lossesOutOfRange, limitsInvalid, rampOrMarkOutOfRange, unitVerdict};
+ghost use Rattle.rules.specs.Refusal.{startsAbove, zonesAscend, zoneCountInvalid, coefficientOutOfRange, lossesOutOfRange, limitsInvalid, rampOrMarkOutOfRange, unitVerdict};
 ghost use Rattle.unit.specs.UnitHeld.{unitHeld};
 use rules::Refusal;
 use rules::Verdict;
@@ -88,7 +88,23 @@ fn losses_out_of_range(u: Unit) -> bool
     100000000 <= b1 as i64 + (19999 * b as u64) as i64
 }
 
-// Whether the zones lie between least and greatest output, apart and in order.
+// Whether the first zone starts above the least output.
+fn starts_above(u: Unit) -> bool
+    ensures { λ r. ⌜ r ≡ startsAbove (u .least) (zones (unitHeld u)) ⌝ }
+{
+    let Unit {
+        least,
+        zone_count,
+        edges,
+        ..
+    } = u;
+    if zone_count == 0 {
+        return true;
+    }
+    least < edges[0]
+}
+
+// Whether the zones lie between least and greatest output, in order; two may share an edge.
 fn zones_ascend(u: Unit) -> bool
     requires { ⌜ unitHeld u .zoneCount ≤ 4 ⌝ }
     ensures { λ r. ⌜ r ≡ zonesAscend (u .least) (zones (unitHeld u)) (u .greatest) ⌝ }
@@ -106,7 +122,7 @@ fn zones_ascend(u: Unit) -> bool
     while k < zone_count {
         let lower = edges[2 * k];
         let upper = edges[2 * k + 1];
-        if lower <= below {
+        if lower < below {
             return false;
         }
         if upper <= lower {
@@ -135,6 +151,9 @@ fn limits_invalid(u: Unit) -> bool
         return true;
     }
     if greatest > 10000 {
+        return true;
+    }
+    if !starts_above(u) {
         return true;
     }
     !zones_ascend(u)
