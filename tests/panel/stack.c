@@ -1,0 +1,99 @@
+/* The stack that each call takes: it is made on a stack of its own, painted before, and what it has written over is counted. No call may
+ * take more than include/shahfureel.h says, on the largest cases of either edition and on U5. */
+#define _XOPEN_SOURCE 700
+#include "shahfureel.h"
+
+#include <stdio.h>
+#include <stdlib.h>
+#include <string.h>
+#include <ucontext.h>
+
+enum { STACK = 65536, PAINT = 0xA5 };
+
+static uint8_t stack[STACK] __attribute__((aligned(64)));
+static ucontext_t here, there;
+
+static uint8_t file[SHAHFUREEL_FILE_BYTES_MAX], reply[SHAHFUREEL_REPLY_BYTES], packed_file[SHAHFUREEL_FILE_BYTES_MAX];
+static uint8_t request[SHAHFUREEL_VIEW_REQUEST_BYTES] = {3, 0, 0, 0, 1}, viewed[SHAHFUREEL_VIEW_ANSWER_BYTES];
+static uint32_t rows[SHAHFUREEL_ROWS_NUMBERS], outputs[SHAHFUREEL_UNITS_MAX], demands[SHAHFUREEL_FLOORS_MAX];
+static int64_t floors[SHAHFUREEL_FLOORS_MAX], answers[SHAHFUREEL_JUDGE_ANSWERS];
+static size_t file_length, units;
+static uint32_t reply_length;
+
+static void nothing(void) {}
+static void dispatch(void) { reply_length = shahfureel_dispatch(file, file_length, reply, sizeof reply); }
+static void price(void) { shahfureel_price(file, file_length, 21, answers, SHAHFUREEL_ANSWERS); }
+static void pack(void) { shahfureel_pack(0, rows, units * SHAHFUREEL_ROW_NUMBERS, packed_file, sizeof packed_file); }
+static void unpack(void) { shahfureel_unpack(file, file_length, rows, SHAHFUREEL_ROWS_NUMBERS, answers, SHAHFUREEL_ANSWERS); }
+static void view(void) { shahfureel_view(reply, reply_length, request, sizeof request, viewed, sizeof viewed, answers, 1); }
+static void judge(void) { shahfureel_judge(file, file_length, outputs, units, answers, SHAHFUREEL_JUDGE_ANSWERS); }
+static void floor_list(void)
+{
+    shahfureel_floors(file, file_length, demands, SHAHFUREEL_FLOORS_MAX, floors, SHAHFUREEL_FLOORS_MAX, answers, 1);
+}
+
+static const struct {
+    const char *name;
+    void (*call)(void);
+    size_t most;
+} calls[] = {
+    {"dispatch", dispatch, SHAHFUREEL_STACK_DISPATCH}, {"price", price, SHAHFUREEL_STACK_PRICE},
+    {"pack", pack, SHAHFUREEL_STACK_PACK},             {"unpack", unpack, SHAHFUREEL_STACK_UNPACK},
+    {"view", view, SHAHFUREEL_STACK_VIEW},             {"judge", judge, SHAHFUREEL_STACK_JUDGE},
+    {"floors", floor_list, SHAHFUREEL_STACK_FLOORS},
+};
+
+enum { CALLS = sizeof calls / sizeof calls[0] };
+
+/* the bytes of the painted stack that a call writes over, with the frame of its caller here */
+static size_t taken_by(void (*call)(void))
+{
+    memset(stack, PAINT, sizeof stack);
+    if (getcontext(&there) != 0)
+        exit(2);
+    there.uc_stack.ss_sp = stack;
+    there.uc_stack.ss_size = sizeof stack;
+    there.uc_link = &here;
+    makecontext(&there, call, 0);
+    if (swapcontext(&here, &there) != 0)
+        exit(2);
+    size_t untouched = 0;
+    while (untouched < sizeof stack && stack[untouched] == PAINT)
+        untouched++;
+    return sizeof stack - untouched;
+}
+
+static void read_case(const char *path)
+{
+    FILE *f = fopen(path, "rb");
+    if (f == NULL) {
+        perror(path);
+        exit(2);
+    }
+    file_length = fread(file, 1, sizeof file, f);
+    fclose(f);
+    units = (size_t)file[2] * 256 + file[3];
+}
+
+int main(int count, char **paths)
+{
+    size_t most[CALLS] = {0};
+    size_t own = taken_by(nothing);
+    int failed = count < 2;
+    for (int i = 1; i < count; i++) {
+        read_case(paths[i]);
+        for (size_t k = 0; k < CALLS; k++) {
+            size_t taken = taken_by(calls[k].call);
+            taken = taken > own ? taken - own : 0;
+            if (taken > most[k])
+                most[k] = taken;
+            for (size_t u = 0; k == 0 && u < units && reply_length >= SHAHFUREEL_LENGTH_MIN; u++)
+                outputs[u] = shahfureel_reply_output(reply, (unsigned)u);
+        }
+    }
+    for (size_t k = 0; k < CALLS; k++) {
+        printf("stack: %s %zu bytes, at most %zu\n", calls[k].name, most[k], calls[k].most);
+        failed |= most[k] > calls[k].most || most[k] == 0;
+    }
+    return failed;
+}
