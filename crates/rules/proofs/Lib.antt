@@ -11,6 +11,7 @@ pub mod Rising
 pub mod SharedEdges
 pub mod Demand3
 pub mod Saving
+pub mod Choices
 pub mod Replied
 pub mod Loads
 pub mod Lengths

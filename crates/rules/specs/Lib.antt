@@ -6,6 +6,7 @@ pub mod Refusal
 pub mod Regions
 pub mod Problem
 pub mod Choice
+pub mod Choices
 pub mod Bisection
 pub mod Stages
 pub mod Calls

@@ -2,14 +2,12 @@
 use Prim.Native.Nat.{ℕ, zero, suc, _+_, _-_, _*_, _/_, _%_, _≤_}
 use mathlib.Core.Bool.{cond}
 use mathlib.Core.List.{List, [], _∷_, _++_}
-use mathlib.Core.Path.{_≡_, refl}
+use mathlib.Core.Path.{_≡_}
 use lib.Dec.{ltb}
 use lib.ListN.{length, take, drop, replicate}
 use Rattle.fields.specs.Field.{field}
 use Rattle.rules.specs.Refusal.{numberOf}
 use Rattle.rules.specs.Calls.{dispatched}
-use Rattle.rules.specs.Cases.{answer}
-use Rattle.rules.specs.CaseFiles.{u5}
 use Rattle.rules.specs.declared.Refusal.{Refusal}
 use Rattle.rules.specs.declared.Dispatched.{Dispatched}
 
@@ -108,9 +106,3 @@ Held answer buffer = (n : ℕ) → answer ≡ Dispatched.Replied n → (28 ≤ n
 pub record Put (before : List ℕ) (at : ℕ) (put : List ℕ) (after : List ℕ) (next : ℕ) : Type 0 where
   pub ends : next ≡ at + length put
   pub whole : after ≡ take at before ++ (put ++ drop (at + length put) before)
-
--- ---- what the program writes for U5's file (rule 15.5), byte by byte: `units 1 evaluations 18 cost 119000 gap 42000 surplus 200000000`, then `1 7`
-
-u5-printed : printed u5 ≡ 0x75 ∷ 0x6E ∷ 0x69 ∷ 0x74 ∷ 0x73 ∷ 0x20 ∷ 0x31 ∷ 0x20 ∷ 0x65 ∷ 0x76 ∷ 0x61 ∷ 0x6C ∷ 0x75 ∷ 0x61 ∷ 0x74 ∷ 0x69 ∷ 0x6F ∷ 0x6E ∷ 0x73 ∷ 0x20 ∷ 0x31 ∷ 0x38 ∷ 0x20 ∷ 0x63 ∷ 0x6F ∷ 0x73 ∷ 0x74 ∷ 0x20 ∷ 0x31 ∷ 0x31 ∷ 0x39 ∷ 0x30 ∷ 0x30 ∷ 0x30 ∷ 0x20 ∷ 0x67 ∷ 0x61 ∷ 0x70 ∷ 0x20 ∷ 0x34 ∷ 0x32 ∷ 0x30 ∷ 0x30 ∷ 0x30 ∷ 0x20 ∷ 0x73 ∷ 0x75 ∷ 0x72 ∷ 0x70 ∷ 0x6C ∷ 0x75 ∷ 0x73 ∷ 0x20 ∷ 0x32 ∷ 0x30 ∷ 0x30 ∷ 0x30 ∷ 0x30 ∷ 0x30 ∷ 0x30 ∷ 0x30 ∷ 0x30 ∷ 0x0A ∷ 0x31 ∷ 0x20 ∷ 0x37 ∷ 0x0A ∷ []
-unfolding answer u5 printed textOf replyText outputLines outputLine summaryLine decimal digits
-u5-printed = refl
