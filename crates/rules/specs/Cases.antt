@@ -1,4 +1,4 @@
--- The example cases: what a call is, and what it answers under the rules. The files, rows and units that the tables (`Table`, `TableOfRefusals`, `TableOfEditions`, `TableOfLowering`) put to the calls are in `CaseFiles`.
+-- The example cases: what a call is, and what it answers under the rules. The files, rows and units that the tables (`Table`, `TableOfRefusals`, `TableOfEditions`, and those of crate `tables`) put to the calls are in `CaseFiles`.
 use Prim.Native.Nat.{ℕ, _+_, _*_}
 use mathlib.Core.Bool.{Bool}
 use mathlib.Core.List.{List, [], _∷_}

@@ -21,6 +21,3 @@ pub mod CaseFiles
 pub mod Table
 pub mod TableOfRefusals
 pub mod TableOfEditions
-pub mod TableOfLowering
-pub mod TableOfLoads
-pub mod TableOfSharedEdges

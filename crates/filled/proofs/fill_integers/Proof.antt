@@ -1,11 +1,11 @@
--- `runner::calling::fill_integers` stays in its list, which keeps its length.
+-- `filled::fill_integers` stays in its list, which keeps its length.
 use borrow.Author.Needs.{needs}
 use native.Mathlib.Omega.{arith}
 use Prim.Native.Nat.{_-_}
 use lib.ListN.{length, length-set}
 use mathlib.Core.Path.{_≡_}
-use Rattle.runner.proofs.calling.fill_integers.Statement.{statement}
-use Rattle.runner.proofs.calling.fill_integers.Tie as tie
+use Rattle.filled.proofs.fill_integers.Statement.{statement}
+use Rattle.filled.proofs.fill_integers.Tie as tie
 
 abbrev Inv-loop : tie.InvT-loop
 Inv-loop integers₀ i₀ integers i = length integers ≡ length integers₀

@@ -1,11 +1,11 @@
--- `runner::calling::fill_bytes` stays in its buffer, which keeps its length.
+-- `filled::fill_bytes` stays in its buffer, which keeps its length.
 use borrow.Author.Needs.{needs}
 use native.Mathlib.Omega.{arith}
 use Prim.Native.Nat.{_-_}
 use lib.ListN.{length, length-set}
 use mathlib.Core.Path.{_≡_}
-use Rattle.runner.proofs.calling.fill_bytes.Statement.{statement}
-use Rattle.runner.proofs.calling.fill_bytes.Tie as tie
+use Rattle.filled.proofs.fill_bytes.Statement.{statement}
+use Rattle.filled.proofs.fill_bytes.Tie as tie
 
 abbrev Inv-loop : tie.InvT-loop
 Inv-loop bytes₀ i₀ bytes i = length bytes ≡ length bytes₀

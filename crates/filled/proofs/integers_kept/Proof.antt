@@ -1,4 +1,4 @@
--- `runner::calling::integers_kept` meets its contract: the bits of what is left to look at decide the answer.
+-- `filled::integers_kept` meets its contract: the bits of what is left to look at decide the answer.
 use native.Mathlib.Omega.{arith}
 use Prim.Native.Nat.{ℕ, _-_}
 use mathlib.Core.Path.{_≡_, refl, sym, _∙_}
@@ -9,8 +9,8 @@ use lib.ListN.{length, getD, length-map, List·getD-map}
 use mir.Syntax.{w64}
 use mir.Val.{ofZ}
 use denote.Ref.{now}
-use Rattle.runner.proofs.calling.integers_kept.Statement.{statement}
-use Rattle.runner.proofs.calling.integers_kept.Tie as tie
+use Rattle.filled.proofs.integers_kept.Statement.{statement}
+use Rattle.filled.proofs.integers_kept.Tie as tie
 
 abbrev bits : List ℤ → List ℕ
 bits s = map (ofZ w64) s

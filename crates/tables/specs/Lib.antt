@@ -1,0 +1,3 @@
+pub mod TableOfLowering
+pub mod TableOfLoads
+pub mod TableOfSharedEdges
