@@ -13,7 +13,8 @@ use lib.Signed.{_<ℤ_, ≤ℤ-refl}
 use Rattle.rules.specs.Choice.{better, earlier}
 use Rattle.fields.proofs.Integers.{up, dn}
 use Rattle.rules.proofs.Economics.Chosen.{Chosen, alike, agreed, single, lower-better, upper-better, both-tie}
-use Rattle.site.specs.Site.{low, high, Within, Regions}
+use Rattle.regions.specs.Regions.{low, high}
+use Rattle.site.specs.Site.{Within, Regions}
 use Rattle.choice.specs.declared.Curve as code
 use Rattle.choice.specs.Curve.{height, pricedAt}
 use Rattle.choice.specs.Choosing.{Reaching, Running, Beside, Choosable}

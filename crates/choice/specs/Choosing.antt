@@ -6,7 +6,8 @@ use mathlib.Core.Path.{_≡_}
 use lib.IntN.{ℤ}
 use lib.Signed.{_<ℤ_}
 use Rattle.rules.proofs.Economics.Chosen.{Chosen}
-use Rattle.site.specs.Site.{low, high, Regions}
+use Rattle.regions.specs.Regions.{low, high}
+use Rattle.site.specs.Site.{Regions}
 use Rattle.choice.specs.Curve.{height, InRange}
 use Rattle.choice.specs.declared.Curve.{Curve}
 use Rattle.choice.specs.declared.Choice.{Choice}

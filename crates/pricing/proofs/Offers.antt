@@ -12,7 +12,8 @@ use Rattle.rules.proofs.Lists.{Every, every-from}
 use Rattle.fields.proofs.Integers.{Is, same}
 use Rattle.rules.proofs.Economics.Chosen.{Chosen, Among, some-among, unique, alike, agreed, scanned}
 use Rattle.rules.proofs.Economics.Allocations.{Proper, Available, dual-is, at-most-greatest}
-use Rattle.site.specs.Site.{first, last, low, high, Within, noOffer, HoldsOffer, HoldsProblem}
+use Rattle.regions.specs.Regions.{low, high}
+use Rattle.site.specs.Site.{first, last, Within, noOffer, HoldsOffer, HoldsProblem}
 use Rattle.choice.specs.declared.Curve as code
 use Rattle.choice.specs.Curve.{pricedAt, IsCurve, InRange}
 use Rattle.choice.specs.Choosing.{Choosable}

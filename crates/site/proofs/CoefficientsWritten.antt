@@ -7,8 +7,9 @@ use lib.ListN.{length, getD, set, length-set}
 use lib.Seq.{getD-set-same, getD-set-other}
 use Rattle.rules.specs.Unit.{Unit, linearFactor}
 use Rattle.rules.proofs.Sound.{Sound}
-use Rattle.site.specs.Writing.{KeptOutside, CoefficientsWritten}
-use Rattle.site.proofs.KeptOutside.{kept-set, kept-then, first-written, second-written, both-kept}
+use Rattle.regions.specs.Writing.{KeptOutside}
+use Rattle.site.specs.Writing.{CoefficientsWritten}
+use Rattle.regions.proofs.KeptOutside.{kept-set, kept-then, first-written, second-written, both-kept}
 
 module _ (u : Unit) (i : ℕ) (before : List ℕ) (s : Sound u) (room : 5 * i + 5 ≤ length before) where
   -- c0 and c1, then c2 and b, then the linear factor

@@ -12,9 +12,11 @@ use Rattle.rules.specs.Problem.{Offer, offer}
 use Rattle.rules.proofs.Economics.Chosen.{Among, none-among}
 use Rattle.rules.proofs.Economics.Outputs.{offered-permitted, permitted-offered}
 use Rattle.rules.proofs.Economics.Solvable.{offer-proper}
-use Rattle.site.specs.Site.{low, high, first, last, Within, Regions, HoldsOffer}
-use Rattle.site.specs.Writing.{KeptOutside, RegionsWritten, CoefficientsWritten, RangeWritten, UnitWritten}
-use Rattle.site.proofs.KeptOutside.{kept-all}
+use Rattle.regions.specs.Regions.{low, high}
+use Rattle.regions.specs.Writing.{KeptOutside, RegionsWritten}
+use Rattle.regions.proofs.KeptOutside.{kept-all}
+use Rattle.site.specs.Site.{first, last, Within, Regions, HoldsOffer}
+use Rattle.site.specs.Writing.{CoefficientsWritten, RangeWritten, UnitWritten}
 
 -- ---- the same in other arrays
 

@@ -1,8 +1,3 @@
-pub mod KeptOutside
-pub mod Windowed
-pub mod Ascending
-pub mod Held
-pub mod Dividing
 pub mod CoefficientsWritten
 pub mod HoldsOffer
 pub mod Decodes

@@ -13,16 +13,10 @@ use Rattle.rules.specs.declared.Verdict.{Verdict}
 use Rattle.rules.proofs.Sound.{Sound}
 use Rattle.rules.proofs.Economics.Chosen.{Among}
 use Rattle.rules.proofs.Economics.Allocations.{Proper}
+use Rattle.regions.specs.Regions.{low, high, Between}
 use Rattle.site.specs.declared.Decoded.{Decoded}
 
 -- ---- the arrays by place
-
--- the ends of region k
-abbrev pub low : List ℕ → ℕ → ℕ
-low ends k = getD ends (2 * k) 0
-
-abbrev pub high : List ℕ → ℕ → ℕ
-high ends k = getD ends (2 * k + 1) 0
 
 -- the first and the last region of unit i
 abbrev pub first : List ℕ → ℕ → ℕ
@@ -57,11 +51,6 @@ pub record Coefficients (coefficients : List ℕ) (i : ℕ) (u : Unit) : Type 0 
   pub factor : factorAt coefficients i ≡ linearFactor u
 
 -- ---- regions
-
--- from low to high
-pub record Between (low high p : ℕ) : Type 0 where
-  pub from : low ≤ p
-  pub to : p ≤ high
 
 -- p lies in one of the regions first to last
 pub record Within (ends : List ℕ) (first last p : ℕ) : Type 0 where

@@ -8,7 +8,6 @@ ghost use Rattle.unit.specs.UnitHeld.{unitHeld};
 ghost use Rattle.site.specs.Site.{Decodes};
 ghost use Rattle.site.specs.Writing.{Writable, CoefficientsWritten, RangeWritten, UnitWritten, BodiesNamed};
 use crate::Decoded;
-use crate::regions::write_regions;
 use rules::Refusal;
 use rules::Verdict;
 use unit::Unit;
@@ -57,7 +56,7 @@ fn write_unit(
 {
     write_coefficients(u, i, coefficients);
     let start = 6 * i;
-    let next = write_regions(u, start, ends);
+    let next = regions::write_regions(u, start, ends);
     if next == start {
         return false;
     }

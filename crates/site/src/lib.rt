@@ -5,7 +5,6 @@
 //   ranges        the first and the last region of unit i, from 2 × i on.
 // `specs/Site` says which problem of the rules they hold.
 mod decoding;
-mod regions;
 
 pub use decoding::decode;
 use rules::Refusal;
@@ -14,10 +13,4 @@ use rules::Refusal;
 pub enum Decoded {
     Site { count: usize, target: u64 },
     Refused(Refusal),
-}
-
-// The running outputs that the ramp limits leave.
-pub struct Window {
-    pub from: u16,
-    pub to: u16,
 }

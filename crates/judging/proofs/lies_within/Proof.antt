@@ -8,7 +8,7 @@ use mathlib.Core.Path.{_≡_, sym, _∙_}
 use lib.Dec.{leb}
 use Prim.Native.Nat.{ℕ, suc, _≤_, _<_, _-_}
 use Rattle.rules.proofs.Verdicts.{and-true}
-use Rattle.site.specs.Site.{low, high, Between}
+use Rattle.regions.specs.Regions.{low, high, Between}
 use Rattle.judging.proofs.lies_within.Statement.{statement}
 use Rattle.judging.proofs.lies_within.Tie as tie
 

@@ -10,7 +10,8 @@ use denote.Ref.{now}
 use borrow.Author.Needs.{needs}
 use Rattle.fields.proofs.Integers.{Is, itself, is-pos, is-same, same, when-lt, when-ge, under}
 use Rattle.rules.proofs.Economics.Chosen.{Chosen}
-use Rattle.site.specs.Site.{high, Within}
+use Rattle.regions.specs.Regions.{high}
+use Rattle.site.specs.Site.{Within}
 use Rattle.choice.specs.Curve.{pricedAt}
 use Rattle.choice.specs.Choosing.{Running}
 use Rattle.choice.proofs.Signed.{zero-bits, other-bits}

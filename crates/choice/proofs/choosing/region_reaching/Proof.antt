@@ -2,7 +2,7 @@
 use borrow.Author.Count.{below-more}
 use native.Mathlib.Omega.{arith}
 use Prim.Native.Nat.{ℕ, _≤_, _<_, _-_}
-use Rattle.site.specs.Site.{high}
+use Rattle.regions.specs.Regions.{high}
 use Rattle.choice.proofs.choosing.region_reaching.Statement.{statement}
 use Rattle.choice.proofs.choosing.region_reaching.Tie as tie
 

@@ -7,7 +7,8 @@ use denote.Ref.{now}
 use Rattle.rules.specs.Lists.{greatest}
 use Rattle.rules.specs.Problem.{Offer, Problem}
 use Rattle.rules.proofs.Economics.Quantities.{cost-range}
-use Rattle.site.specs.Site.{last, high, noOffer, HoldsOffer, HoldsProblem}
+use Rattle.regions.specs.Regions.{high}
+use Rattle.site.specs.Site.{last, noOffer, HoldsOffer, HoldsProblem}
 use Rattle.pricing.specs.Totals.{Held, Sized}
 use Rattle.pricing.proofs.Offers.{greatest-held, greatest-small}
 use Rattle.pricing.proofs.Allocating.{Allocating, allocating-starts, offered, sized-more, allocating-more, allocating-ends}

@@ -4,7 +4,7 @@ use native.Mathlib.Omega.{arith}
 use lib.ListN.{length-set}
 use borrow.Author.Needs.{needs}
 use denote.Ref.{now}
-use Rattle.site.proofs.KeptOutside.{first-written, second-written, both-kept}
+use Rattle.regions.proofs.KeptOutside.{first-written, second-written, both-kept}
 use Rattle.site.proofs.decoding.write_range.Statement.{statement}
 use Rattle.site.proofs.decoding.write_range.Tie as tie
 

@@ -1,16 +1,16 @@
--- `site::regions::write_regions` meets its contract. The loop keeps what `Dividing` says of its locals: the regions have the permitted outputs below the end of the last zone.
+-- `regions::write_regions` meets its contract. The loop keeps what `Dividing` says of its locals: the regions have the permitted outputs below the end of the last zone.
 use Prim.Native.Nat.{_<_, _-_}
 use native.Mathlib.Omega.{arith}
 use lib.ListN.{length-set}
 use lib.Dec.{leb, eqb}
 use denote.Ref.{now}
 use Rattle.unit.specs.UnitHeld.{unitHeld}
-use Rattle.site.proofs.Ascending.{Pushable, at-most-one}
-use Rattle.site.proofs.Dividing.{Dividing, Turn, standing, standing-kept, dividing-starts, pushable, dividing-more, dividing-ends}
+use Rattle.regions.proofs.Ascending.{Pushable, at-most-one}
+use Rattle.regions.proofs.Dividing.{Dividing, Turn, standing, standing-kept, dividing-starts, pushable, dividing-more, dividing-ends}
 use Rattle.rules.proofs.Sound.{edge-small}
-use Rattle.site.proofs.Windowed.{windowed}
-use Rattle.site.proofs.regions.write_regions.Statement.{statement}
-use Rattle.site.proofs.regions.write_regions.Tie as tie
+use Rattle.regions.proofs.Windowed.{windowed}
+use Rattle.regions.proofs.write_regions.Statement.{statement}
+use Rattle.regions.proofs.write_regions.Tie as tie
 
 abbrev Inv-loop : tie.InvT-loop
 Inv-loop u start ends₀ least greatest previous up down mark lowest highest ramp narrowed next₀ from₀ k₀ ends next from k = Dividing (unitHeld u) start ends₀ ends next from k

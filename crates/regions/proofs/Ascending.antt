@@ -10,9 +10,9 @@ use lib.Dec.{leb}
 use lib.ListN.{length, set}
 use mir.Val.{boolByte}
 use borrow.Author.Tests.{leb-true, le-leb}
-use Rattle.site.specs.Site.{low, high, Between}
-use Rattle.site.specs.Writing.{KeptOutside, Ascending, Inside}
-use Rattle.site.proofs.KeptOutside.{first-written, second-written, both-kept}
+use Rattle.regions.specs.Regions.{low, high, Between, Ascending, Inside}
+use Rattle.regions.specs.Writing.{KeptOutside}
+use Rattle.regions.proofs.KeptOutside.{first-written, second-written, both-kept}
 
 -- from..to may be put behind the regions start .. next − 1
 pub record Pushable (ends : List ℕ) (start next from to : ℕ) : Type 0 where

@@ -5,9 +5,14 @@ ghost use Prim.Native.Nat.{ℕ, _+_, _*_, _≤_, _<_, max, min};
 ghost use lib.ListN.{length, getD};
 ghost use Rattle.rules.proofs.Sound.{Sound};
 ghost use Rattle.unit.specs.UnitHeld.{unitHeld};
-ghost use Rattle.site.specs.Writing.{Ramped, RegionsWritten};
-use crate::Window;
+ghost use Rattle.regions.specs.Writing.{Ramped, RegionsWritten};
 use unit::Unit;
+
+// The running outputs that the ramp limits leave.
+pub struct Window {
+    pub from: u16,
+    pub to: u16,
+}
 
 fn larger(a: u16, b: u16) -> u16
     ensures { λ r. ⌜ r ≡ max a b ⌝ }

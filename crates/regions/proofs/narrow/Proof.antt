@@ -1,4 +1,4 @@
--- `site::regions::narrow` meets its contract: the first k edges are carried over.
+-- `regions::narrow` meets its contract: the first k edges are carried over.
 use mathlib.Core.Path.{_≡_, refl, sym, ap, _∙_}
 use mathlib.Core.List.{List, [], _∷_, _++_}
 use Prim.Native.Nat.{ℕ, _+_, _-_, _≤_}
@@ -7,8 +7,8 @@ use native.Mathlib.Numerals.{add-one}
 use lib.ListN.{length, getD, take, length-set}
 use lib.Seq.{take-suc, take-suc-set, take-length}
 use borrow.Author.Needs.{needs}
-use Rattle.site.proofs.regions.narrow.Statement.{statement}
-use Rattle.site.proofs.regions.narrow.Tie as tie
+use Rattle.regions.proofs.narrow.Statement.{statement}
+use Rattle.regions.proofs.narrow.Tie as tie
 
 abbrev Inv-loop : tie.InvT-loop
 Inv-loop edges narrowed₀ k₀ narrowed k = (k ≤ 8) × (length narrowed ≡ 8) × (take k narrowed ≡ take k edges)

@@ -16,13 +16,13 @@ use Rattle.rules.specs.Refusal.{zonesAscend}
 use Rattle.rules.proofs.Lists.{length-each}
 use Rattle.rules.proofs.Sound.{Sound, ascending as zones-ascending, zone-between, zone-parts}
 use Rattle.rules.proofs.Economics.Outputs.{stands-permitted, runs-permitted, permitted-greatest}
-use Rattle.site.specs.declared.Window.{Window}
-use Rattle.site.specs.Site.{low, high, Between}
-use Rattle.site.specs.Writing.{KeptOutside, Ascending, Inside, heldFrom, RegionsWritten}
-use Rattle.site.proofs.Windowed.{Windowed}
-use Rattle.site.proofs.KeptOutside.{kept-all, kept-set, kept-then, first-written, second-written, both-kept}
-use Rattle.site.proofs.Ascending.{Pushable, Pushed, pushed, counted, push, at-most-one, one-true}
-use Rattle.site.proofs.Held.{held-standing, held-more}
+use Rattle.regions.specs.declared.Window.{Window}
+use Rattle.regions.specs.Regions.{low, high, Between, Ascending, Inside, heldFrom}
+use Rattle.regions.specs.Writing.{KeptOutside, RegionsWritten}
+use Rattle.regions.proofs.Windowed.{Windowed}
+use Rattle.regions.proofs.KeptOutside.{kept-all, kept-set, kept-then, first-written, second-written, both-kept}
+use Rattle.regions.proofs.Ascending.{Pushable, Pushed, pushed, counted, push, at-most-one, one-true}
+use Rattle.regions.proofs.Held.{held-standing, held-more}
 use Rattle.rules.proofs.Zones.{outside, before-zone, after-zone, within-zone, next-zone}
 
 -- the regions start .. next − 1 have the permitted outputs below `from`, where zone k − 1 ends or the running outputs begin

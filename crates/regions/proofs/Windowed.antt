@@ -11,9 +11,9 @@ use Rattle.rules.specs.Unit.{Unit, inRampWindow}
 use Rattle.rules.specs.Regions.{Region, windowed as cutTo}
 use Rattle.rules.proofs.Verdicts.{and-true}
 use Rattle.rules.proofs.Sound.{Sound}
-use Rattle.site.specs.Site.{Between}
-use Rattle.site.specs.declared.Window.{Window}
-use Rattle.site.specs.Writing.{Ramped}
+use Rattle.regions.specs.Regions.{Between}
+use Rattle.regions.specs.declared.Window.{Window}
+use Rattle.regions.specs.Writing.{Ramped}
 
 -- the running outputs that the ramp limits leave are those from w .from to w .to
 pub record Windowed (u : Unit) (w : Window) : Type 0 where
