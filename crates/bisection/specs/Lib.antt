@@ -1,3 +1,2 @@
-pub mod Lowering
 pub mod Search
 pub mod Solving

@@ -5,7 +5,7 @@ ghost use Prim.Native.Nat.{_≤_};
 ghost use lib.Signed.{leZ};
 ghost use Rattle.pricing.specs.Totals.{Sized};
 ghost use Rattle.bisection.specs.Search.{Holding, Searchable, sumsOf, recorded, Begun, SearchesFrom, Searches};
-use crate::lowering::lower;
+use lowering::lower;
 use pricing::Evaluated;
 use pricing::Sums;
 

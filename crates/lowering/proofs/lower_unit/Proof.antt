@@ -1,4 +1,4 @@
--- `bisection::lowering::lower_unit` meets its contract: each return is one case of it.
+-- `lowering::lower_unit` meets its contract: each return is one case of it.
 use mathlib.Core.Path.{_≡_, refl, ap₂}
 use mathlib.Core.Logic.{⊎-elim}
 use Prim.Native.Nat.{ℕ, _+_, _-_}
@@ -9,9 +9,9 @@ use borrow.Author.Needs.{needs}
 use Rattle.rules.specs.Unit.{Unit}
 use Rattle.rules.proofs.Economics.Quantities.{cost-range, net-range}
 use Rattle.site.specs.Site.{Coefficients}
-use Rattle.bisection.specs.Lowering.{netLowered}
-use Rattle.bisection.proofs.lowering.lower_unit.Statement.{statement}
-use Rattle.bisection.proofs.lowering.lower_unit.Tie as tie
+use Rattle.lowering.specs.Lowering.{netLowered}
+use Rattle.lowering.proofs.lower_unit.Statement.{statement}
+use Rattle.lowering.proofs.lower_unit.Tie as tie
 
 mul-p : tie.Need-mul-p
 mul-p c = search needs

@@ -1,9 +1,9 @@
--- `bisection::lowering::lower` meets its contract: the loop keeps what `Lowering` says.
+-- `lowering::lower` meets its contract: the loop keeps what `Lowering` says.
 use Prim.Native.Nat.{ℕ, _-_}
 use native.Mathlib.Omega.{arith}
-use Rattle.bisection.proofs.Lowered.{Lowering, nothing-to-lower, lowering-starts, unit-lowerable, lowering-more, lowering-ends}
-use Rattle.bisection.proofs.lowering.lower.Statement.{statement}
-use Rattle.bisection.proofs.lowering.lower.Tie as tie
+use Rattle.lowering.proofs.Lowered.{Lowering, nothing-to-lower, lowering-starts, unit-lowerable, lowering-more, lowering-ends}
+use Rattle.lowering.proofs.lower.Statement.{statement}
+use Rattle.lowering.proofs.lower.Tie as tie
 
 abbrev Inv-loop : tie.InvT-loop
 Inv-loop coefficients n target ties least outputs₀ sums₀ i₀ outputs sums i = Lowering coefficients n target sums₀ least outputs₀ outputs sums i
