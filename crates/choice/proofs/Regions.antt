@@ -29,31 +29,31 @@ module _ {ends : List ℕ} {begin end : ℕ} (r : Regions ends begin end) where
     where
       by : Dec (j ≡ k) → high ends j ≤ high ends k
       by (yes e) = rw e (omega arith)
-      by (no n) = omega (arith, r .apart j k f (omega arith) t, r .order k (omega arith) t)
+      by (no n) = omega (arith, r .ascending .apart j k f (omega arith) (omega arith), r .ascending .order k (omega arith) (omega arith))
 
   pub low-rises : (j k : ℕ) → begin ≤ j → j ≤ k → k ≤ end → low ends j ≤ low ends k
   low-rises j k f h t = by (ℕ-discrete j k)
     where
       by : Dec (j ≡ k) → low ends j ≤ low ends k
       by (yes e) = rw e (omega arith)
-      by (no n) = omega (arith, r .apart j k f (omega arith) t, r .order j f (omega arith))
+      by (no n) = omega (arith, r .ascending .apart j k f (omega arith) (omega arith), r .ascending .order j f (omega arith))
 
   -- ---- an output in them
 
   pub from-lowest : (p : ℕ) → Within ends begin end p → low ends begin ≤ p
-  from-lowest p w = omega (arith, w .inside .from, low-rises begin (w .region) (omega arith) (w .from) (w .to))
+  from-lowest p w = omega (arith, w .inside .from, low-rises begin (w .region) (omega arith) (w .from) (omega (arith, w .to)))
 
   pub to-highest : (p : ℕ) → Within ends begin end p → p ≤ high ends end
-  to-highest p w = omega (arith, w .inside .to, high-rises (w .region) end (w .from) (w .to) (omega arith))
+  to-highest p w = omega (arith, w .inside .to, high-rises (w .region) end (w .from) (omega (arith, w .to)) (omega arith))
 
   pub small : (p : ℕ) → Within ends begin end p → p ≤ 10000
-  small p w = omega (arith, to-highest p w, r .limit end (r .some) (omega arith))
+  small p w = omega (arith, to-highest p w, r .ascending .limit end (r .some) (omega arith))
 
   pub lowest : Within ends begin end (low ends begin)
-  lowest = record { region = begin; from = omega arith; to = r .some; inside = record { from = omega arith; to = r .order begin (omega arith) (r .some) } }
+  lowest = let t : begin < end + 1 = omega (arith, r .some) in record { region = begin; from = omega arith; to = t; inside = record { from = omega arith; to = r .ascending .order begin (omega arith) t } }
 
   pub highest : Within ends begin end (high ends end)
-  highest = record { region = end; from = r .some; to = omega arith; inside = record { from = r .order end (r .some) (omega arith); to = omega arith } }
+  highest = record { region = end; from = r .some; to = omega arith; inside = record { from = r .ascending .order end (r .some) (omega arith); to = omega arith } }
 
   -- up to a region or from the next one on
   pub parted : (k : ℕ) → begin ≤ k → k < end → (p : ℕ) → Within ends begin end p → (p ≤ high ends k) ⊎ (low ends (k + 1) ≤ p)
@@ -61,7 +61,7 @@ module _ {ends : List ℕ} {begin end : ℕ} (r : Regions ends begin end) where
     where
       by : Dec (w .region ≤ k) → (p ≤ high ends k) ⊎ (low ends (k + 1) ≤ p)
       by (yes l) = inl (omega (arith, w .inside .to, high-rises (w .region) k (w .from) l (omega arith)))
-      by (no l) = inr (omega (arith, w .inside .from, low-rises (k + 1) (w .region) (omega arith) (omega arith) (w .to)))
+      by (no l) = inr (omega (arith, w .inside .from, low-rises (k + 1) (w .region) (omega arith) (omega arith) (omega (arith, w .to))))
 
 -- ---- beside the vertex, which region k reaches first
 
@@ -77,12 +77,12 @@ module _ {ends : List ℕ} {begin end : ℕ} {c : code.Curve} {v k : ℕ} {tied 
       by (no h) = let e : k ≡ end = omega (arith, q .to) in rw e (b .to)
 
   here : low ends k ≤ v → Within ends begin end v
-  here h = record { region = k; from = q .from; to = q .to; inside = record { from = h; to = reached } }
+  here h = record { region = k; from = q .from; to = omega (arith, q .to); inside = record { from = h; to = reached } }
 
   -- with the output before it in the same region
   module _ (h : low ends k < v) where
     one-before : Within ends begin end (v - 1)
-    one-before = record { region = k; from = q .from; to = q .to; inside = record { from = omega arith; to = omega (arith, reached) } }
+    one-before = record { region = k; from = q .from; to = omega (arith, q .to); inside = record { from = omega arith; to = omega (arith, reached) } }
 
     split : (p : ℕ) → Within ends begin end p → (p ≤ v - 1) ⊎ (v ≤ p)
     split p w = by (decLt p v)
@@ -119,16 +119,16 @@ module _ {ends : List ℕ} {begin end : ℕ} {c : code.Curve} {v k : ℕ} {tied 
       next = omega (arith, behind-first)
 
       pub before-small : getD ends (2 * k - 1) 0 ≤ 10000
-      before-small = omega (arith, same-high, r .limit (k - 1) (omega (arith, behind-first)) (omega (arith, q .to)))
+      before-small = omega (arith, same-high, r .ascending .limit (k - 1) (omega (arith, behind-first)) (omega (arith, q .to)))
 
       pub behind-small : low ends k ≤ 10000
-      behind-small = omega (arith, r .order k (q .from) (q .to), r .limit k (q .from) (q .to))
+      behind-small = omega (arith, r .ascending .order k (q .from) (omega (arith, q .to)), r .ascending .limit k (q .from) (omega (arith, q .to)))
 
       pub between-regions : Chosen (height c) (Within ends begin end) (better (height c) (getD ends (2 * k - 1) 0) (low ends k)) (earlier (height c) (getD ends (2 * k - 1) 0) (low ends k))
       between-regions =
           let f = behind-first in
-          let last : Within ends begin end (high ends (k - 1)) = record { region = k - 1; from = omega arith; to = omega (arith, q .to); inside = record { from = r .order (k - 1) (omega arith) (omega (arith, q .to)); to = omega arith } } in
-          let one : Within ends begin end (low ends k) = record { region = k; from = q .from; to = q .to; inside = record { from = omega arith; to = r .order k (q .from) (q .to) } } in
+          let last : Within ends begin end (high ends (k - 1)) = record { region = k - 1; from = omega arith; to = omega (arith, q .to); inside = record { from = r .ascending .order (k - 1) (omega arith) (omega (arith, q .to)); to = omega arith } } in
+          let one : Within ends begin end (low ends k) = record { region = k; from = q .from; to = omega (arith, q .to); inside = record { from = omega arith; to = r .ascending .order k (q .from) (omega (arith, q .to)) } } in
           rw same-high
           (compared (b .valley) (from-lowest r) (to-highest r) (high ends (k - 1)) (low ends k) last one (q .below (k - 1) (omega arith) (omega arith)) h
           (λ p w. rw next at (parted r (k - 1) (omega arith) (omega (arith, q .to)) p w)))
@@ -179,18 +179,18 @@ module _ {ends : List ℕ} {begin end : ℕ} {c : code.Curve} (u : Choosable end
       }
     where
       by : Dec (low ends begin ≡ 0) → 1 ≤ low ends begin
-      by (yes e) = absurd (n (s .stands begin (omega arith) (s .some) e))
+      by (yes e) = absurd (n (s .ascending .stands begin (omega arith) (omega (arith, s .some)) e))
       by (no m) = omega arith
 
   module _ (z : high ends begin ≡ 0) where
     nothing-below : low ends begin ≡ 0
-    nothing-below = omega (arith, s .order begin (omega arith) (s .some))
+    nothing-below = omega (arith, s .ascending .order begin (omega arith) (omega (arith, s .some)))
 
     pub only-stands : {f : ℕ → ℤ} → begin ≡ end → Chosen f (Within ends begin end) 0 0
     only-stands e = alike into back (single 0)
       where
         into : (p : ℕ) → p ≡ 0 → Within ends begin end p
-        into p h = record { region = begin; from = omega arith; to = s .some; inside = record { from = omega (arith, nothing-below); to = omega (arith, z) } }
+        into p h = record { region = begin; from = omega arith; to = omega (arith, s .some); inside = record { from = omega (arith, nothing-below); to = omega (arith, z) } }
 
         back : (p : ℕ) → Within ends begin end p → p ≡ 0
         back p w = let f : end ≡ begin = sym e in omega (arith, to-highest s p w, rw (← f) at z)
@@ -203,17 +203,20 @@ module _ {ends : List ℕ} {begin end : ℕ} {c : code.Curve} (u : Choosable end
             regions =
                 record {
                   some = omega arith;
-                  order = λ k f t. s .order k (omega arith) t;
-                  limit = λ k f t. s .limit k (omega arith) t;
-                  apart = λ j k f h t. s .apart j k (omega arith) h t;
-                  stands = λ k f t. s .stands k (omega arith) t;
+                  ascending =
+                      record {
+                        order = λ k f t. s .ascending .order k (omega arith) t;
+                        limit = λ k f t. s .ascending .limit k (omega arith) t;
+                        apart = λ j k f h t. s .ascending .apart j k (omega arith) h t;
+                        stands = λ k f t. s .ascending .stands k (omega arith) t;
+                      };
                 };
-            runs = omega (arith, s .apart begin (begin + 1) (omega arith) (omega arith) (omega arith), z);
+            runs = omega (arith, s .ascending .apart begin (begin + 1) (omega arith) (omega arith) (omega arith), z);
             curve = u .curve;
           }
 
       into : (p : ℕ) → (p ≡ 0) ⊎ Within ends (begin + 1) end p → Within ends begin end p
-      into p (inl h) = record { region = begin; from = omega arith; to = s .some; inside = record { from = omega (arith, nothing-below); to = omega (arith, z) } }
+      into p (inl h) = record { region = begin; from = omega arith; to = omega (arith, s .some); inside = record { from = omega (arith, nothing-below); to = omega (arith, z) } }
       into p (inr w) = record { region = w .region; from = omega (arith, w .from); to = w .to; inside = w .inside }
 
       back : (p : ℕ) → Within ends begin end p → (p ≡ 0) ⊎ Within ends (begin + 1) end p

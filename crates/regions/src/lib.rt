@@ -9,9 +9,9 @@ ghost use Rattle.regions.specs.Writing.{Ramped, RegionsWritten};
 use unit::Unit;
 
 // The running outputs that the ramp limits leave.
-pub struct Window {
-    pub from: u16,
-    pub to: u16,
+struct Window {
+    from: u16,
+    to: u16,
 }
 
 fn larger(a: u16, b: u16) -> u16

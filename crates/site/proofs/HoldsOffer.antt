@@ -12,7 +12,7 @@ use Rattle.rules.specs.Problem.{Offer, offer}
 use Rattle.rules.proofs.Economics.Chosen.{Among, none-among}
 use Rattle.rules.proofs.Economics.Outputs.{offered-permitted, permitted-offered}
 use Rattle.rules.proofs.Economics.Solvable.{offer-proper}
-use Rattle.regions.specs.Regions.{low, high}
+use Rattle.regions.specs.Regions.{low, high, Ascending, Inside}
 use Rattle.regions.specs.Writing.{KeptOutside, RegionsWritten}
 use Rattle.regions.proofs.KeptOutside.{kept-all}
 use Rattle.site.specs.Site.{first, last, Within, Regions, HoldsOffer}
@@ -28,26 +28,25 @@ same : {from to from′ to′ : ℕ} {s t : List ℕ} → KeptOutside from to s 
 same h (inl e) = record { equal = λ k a b. h .below k (omega arith) }
 same h (inr e) = record { equal = λ k a b. h .above k (omega arith) }
 
--- regions first to last depend on their own places only
-module _ {ends ends′ : List ℕ} {f l : ℕ} (b : Same (2 * f) (2 * l + 2) ends ends′) where
-  low-same : (k : ℕ) → f ≤ k → k ≤ l → low ends′ k ≡ low ends k
+-- regions depend on their own places only
+module _ {ends ends′ : List ℕ} {start next : ℕ} (b : Same (2 * start) (2 * next) ends ends′) where
+  low-same : (k : ℕ) → start ≤ k → k < next → low ends′ k ≡ low ends k
   low-same k s t = b .equal (2 * k) (omega arith) (omega arith)
 
-  high-same : (k : ℕ) → f ≤ k → k ≤ l → high ends′ k ≡ high ends k
+  high-same : (k : ℕ) → start ≤ k → k < next → high ends′ k ≡ high ends k
   high-same k s t = b .equal (2 * k + 1) (omega arith) (omega arith)
 
-  regions-same : Regions ends f l → Regions ends′ f l
-  regions-same h =
+  ascending-same : Ascending ends start next → Ascending ends′ start next
+  ascending-same h =
       record {
-        some = h .some;
         order = λ k s t. rw (low-same k s t, high-same k s t) (h .order k s t);
         limit = λ k s t. rw (high-same k s t) (h .limit k s t);
         apart = λ j k s m t. rw (high-same j s (omega arith), low-same k (omega arith) t) (h .apart j k s m t);
         stands = λ k s t. rw (low-same k s t, high-same k s t) (h .stands k s t);
       }
 
-  within-same : (p : ℕ) → Within ends f l p ↔ Within ends′ f l p
-  within-same p = (
+  inside-same : (p : ℕ) → Inside ends start next p ↔ Inside ends′ start next p
+  inside-same p = (
     λ w. record { region = w .region; from = w .from; to = w .to; inside = rw (low-same (w .region) (w .from) (w .to), high-same (w .region) (w .from) (w .to)) (w .inside) },
     λ w. record { region = w .region; from = w .from; to = w .to; inside = rw (low-same (w .region) (w .from) (w .to), high-same (w .region) (w .from) (w .to)) at (w .inside) },
   )
@@ -58,7 +57,7 @@ module _ {coefficients ends ranges coefficients′ ends′ ranges′ : List ℕ}
   holds-same o h =
       let first-same : first ranges′ i ≡ first ranges i = c .equal (2 * i) (omega arith) (omega arith) in
       let last-same : last ranges′ i ≡ last ranges i = c .equal (2 * i + 1) (omega arith) (omega arith) in
-      let part : Same (2 * first ranges i) (2 * last ranges i + 2) ends ends′ = record { equal = λ k s t. b .equal k (omega (arith, h .from)) (omega (arith, h .to)) } in
+      let part : Same (2 * first ranges i) (2 * (last ranges i + 1)) ends ends′ = record { equal = λ k s t. b .equal k (omega (arith, h .from)) (omega (arith, h .to)) } in
       record {
         proper = h .proper;
         unit =
@@ -72,10 +71,10 @@ module _ {coefficients ends ranges coefficients′ ends′ ranges′ : List ℕ}
             };
         from = rw first-same (h .from);
         to = rw last-same (h .to);
-        regions = rw (first-same, last-same) (regions-same part (h .regions));
+        regions = rw (first-same, last-same) (record { some = h .regions .some; ascending = ascending-same part (h .regions .ascending) });
         outputs = λ p. (
-          λ i. rw (first-same, last-same) (within-same part p .0 (h .outputs p .0 i)),
-          λ w. h .outputs p .1 (within-same part p .1 (rw (first-same, last-same) at w)),
+          λ i. rw (first-same, last-same) (inside-same part p .0 (h .outputs p .0 i)),
+          λ w. h .outputs p .1 (inside-same part p .1 (rw (first-same, last-same) at w)),
         );
       }
 
@@ -102,22 +101,14 @@ module _ {u : Unit} {i next : ℕ} {coefficients ends coefficients′ ends′ : 
     some : 6 * i < next
     some = omega (arith, rs .from)
 
+    counted : next - 1 + 1 ≡ next
+    counted = omega (arith, some)
+
     regions : Regions ends′ (6 * i) (next - 1)
-    regions =
-        let a = rs .ascending in
-        record {
-          some = omega (arith, some);
-          order = λ k s t. a .order k s (omega (arith, some));
-          limit = λ k s t. a .limit k s (omega (arith, some));
-          apart = λ j k s m t. a .apart j k s m (omega (arith, some));
-          stands = λ k s t. a .stands k s (omega (arith, some));
-        }
+    regions = record { some = omega (arith, some); ascending = rw counted (rs .ascending) }
 
     within : (p : ℕ) → Among p (offer u .outputs) ↔ Within ends′ (6 * i) (next - 1) p
-    within p = (
-      λ m. let w = rs .outputs p .0 (offered-permitted u p m) in record { region = w .region; from = w .from; to = omega (arith, w .to); inside = w .inside },
-      λ w. permitted-offered u p (rs .outputs p .1 (record { region = w .region; from = w .from; to = omega (arith, w .to, some); inside = w .inside })),
-    )
+    within p = (λ m. rw counted (rs .outputs p .0 (offered-permitted u p m)), λ w. permitted-offered u p (rs .outputs p .1 (rw counted at w)))
 
     pub unit-some : {ranges ranges′ : List ℕ} → RangeWritten i (6 * i) (next - 1) ranges ranges′ → UnitWritten u i coefficients ends ranges coefficients′ ends′ ranges′ true
     unfolding offer

@@ -13,7 +13,7 @@ use Rattle.rules.specs.declared.Verdict.{Verdict}
 use Rattle.rules.proofs.Sound.{Sound}
 use Rattle.rules.proofs.Economics.Chosen.{Among}
 use Rattle.rules.proofs.Economics.Allocations.{Proper}
-use Rattle.regions.specs.Regions.{low, high, Between}
+use Rattle.regions.specs.Regions.{Ascending, Inside}
 use Rattle.site.specs.declared.Decoded.{Decoded}
 
 -- ---- the arrays by place
@@ -53,19 +53,13 @@ pub record Coefficients (coefficients : List ℕ) (i : ℕ) (u : Unit) : Type 0 
 -- ---- regions
 
 -- p lies in one of the regions first to last
-pub record Within (ends : List ℕ) (first last p : ℕ) : Type 0 where
-  pub region : ℕ
-  pub from : first ≤ region
-  pub to : region ≤ last
-  pub inside : Between (low ends region) (high ends region) p
+abbrev pub Within : List ℕ → ℕ → ℕ → ℕ → Type 0
+Within ends first last = Inside ends first (last + 1)
 
--- the regions first to last ascend and lie apart; each has running outputs only, or output 0 alone
+-- the regions first to last ascend, and there is one
 pub record Regions (ends : List ℕ) (first last : ℕ) : Type 0 where
   pub some : first ≤ last
-  pub order : (k : ℕ) → first ≤ k → k ≤ last → low ends k ≤ high ends k
-  pub limit : (k : ℕ) → first ≤ k → k ≤ last → high ends k ≤ 10000
-  pub apart : (j k : ℕ) → first ≤ j → j < k → k ≤ last → high ends j < low ends k
-  pub stands : (k : ℕ) → first ≤ k → k ≤ last → low ends k ≡ 0 → high ends k ≡ 0
+  pub ascending : Ascending ends first (last + 1)
 
 -- ---- what is held
 
