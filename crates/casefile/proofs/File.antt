@@ -8,7 +8,8 @@ use Rattle.rules.specs.Refusal.{inOrder, headVerdict, contentsVerdict, bodyVerd
 use Rattle.rules.specs.declared.Refusal.{Refusal}
 use Rattle.rules.specs.declared.Verdict.the-variants.{Accepted, Refused}
 use Rattle.rules.proofs.Encoding.SoundFile.{sound-file}
-use Rattle.casefile.specs.Required.{BodyInside, BodyFits, HeadRead}
+use Rattle.reading.specs.Required.{BodyFits}
+use Rattle.casefile.specs.Required.{BodyInside, HeadRead}
 use Rattle.casefile.proofs.Body.{verdictAt, body-accepted}
 use Rattle.casefile.proofs.Contents.{inside}
 

@@ -4,19 +4,13 @@ use mathlib.Core.Path.{_≡_}
 use mathlib.Core.Bool.{Bool, true, false}
 use mathlib.Core.List.{List}
 use lib.ListN.{length}
-use Rattle.fields.specs.Field.{field}
-use Rattle.rules.specs.Layout.{bodyLength, count, offset, size}
+use Rattle.rules.specs.Layout.{count, offset, size}
 use Rattle.rules.specs.Refusal.{bodyVerdict}
 use Rattle.rules.specs.declared.Refusal.{Refusal}
 use Rattle.rules.specs.declared.Verdict.{Verdict}
+use Rattle.reading.specs.Required.{BodyFits}
 
--- A body of edition e whose zone count is at most 4 and fits its length.
-pub record BodyFits (e : ℕ) (s : List ℕ) : Type 0 where
-  pub zones : field s 24 2 ≤ 4
-  pub size : length s ≡ bodyLength e (field s 24 2)
-  pub long : 26 ≤ length s
-
--- Whether a body does so: one that does not is refused.
+-- Whether a body of edition e fits its zone count: one that does not is refused.
 pub record FitTold (e : ℕ) (s : List ℕ) (r : Bool) : Type 0 where
   pub fits : r ≡ true → BodyFits e s
   pub misfits : r ≡ false → bodyVerdict e s ≡ Verdict.Refused Refusal.ZoneCountInvalid

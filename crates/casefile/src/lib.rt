@@ -1,9 +1,8 @@
 // Case files, as section 2 of docs/SPECIFICATION.md lays them out: checking one, and reading one that is accepted.
-// A caller that decodes a file checks it place by place, and reads each body once.
+// A caller that decodes a file checks it place by place, and reads each body once (crate `reading`).
 // What each function answers is equated with the definitions of crate `rules`.
 mod accepted;
 mod checking;
-mod reading;
 
 pub use accepted::count;
 pub use accepted::demand;
@@ -14,4 +13,3 @@ pub use checking::check;
 pub use checking::check_contents;
 pub use checking::check_edition;
 pub use checking::check_head;
-pub use reading::read_body;

@@ -83,7 +83,7 @@ fn decode_bodies(
         if !casefile::body_fits(body, edition) {
             return Decoded::Refused(Refusal::ZoneCountInvalid);
         }
-        let u = casefile::read_body(body, edition);
+        let u = reading::read_body(body, edition);
         let verdict = unit::check_numbers(u);
         if let Verdict::Refused(r) = verdict {
             return Decoded::Refused(r);

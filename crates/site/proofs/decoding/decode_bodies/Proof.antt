@@ -12,7 +12,8 @@ use Rattle.rules.specs.Refusal.{zoneCountInvalid, unitVerdict, bodyVerdict}
 use Rattle.rules.specs.declared.Verdict.{Verdict}
 use Rattle.rules.proofs.Sound.{sound}
 use Rattle.rules.proofs.Encoding.SoundFile.{sound-head}
-use Rattle.casefile.specs.Required.{BodyInside, BodyFits}
+use Rattle.reading.specs.Required.{BodyFits}
+use Rattle.casefile.specs.Required.{BodyInside}
 use Rattle.casefile.proofs.Contents.{body-inside, body-length}
 use Rattle.casefile.proofs.Body.{verdictAt, body-fits, zone-count-fits}
 use Rattle.site.proofs.Decodes.{Decoding, decoding-starts, decoding-more, decoding-unserved, decoding-refused, decoding-ends-unserved, decoding-ends}

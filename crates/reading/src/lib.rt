@@ -1,4 +1,5 @@
-// Reading a unit from a body of a file. Edition 2 has b1 before the edges; all else is as in edition 1.
+// Reading a unit from a body of a file (rules 2.6 and 2.10 of docs/SPECIFICATION.md). Edition 2 has b1 before the edges; all else
+// is as in edition 1.
 ghost use mathlib.Core.Path.{_≡_};
 ghost use Prim.Native.Nat.{_+_, _≤_};
 ghost use lib.ListN.{length};
@@ -6,7 +7,7 @@ ghost use Rattle.fields.specs.Field.{field};
 ghost use Rattle.rules.specs.Lists.{each};
 ghost use Rattle.rules.specs.Layout.{linearLoss, edgesStart, edgeOfBody, unitOfBody, bodyLength};
 ghost use Rattle.unit.specs.UnitHeld.{unitHeld};
-ghost use Rattle.casefile.specs.Required.{BodyFits};
+ghost use Rattle.reading.specs.Required.{BodyFits};
 use unit::Unit;
 
 // The 16 bits of a body from `at` on.
