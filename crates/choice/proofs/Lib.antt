@@ -1,4 +1,3 @@
-pub mod Heights
 pub mod Valley
 pub mod Regions
 pub mod Signed

@@ -15,11 +15,11 @@ use Rattle.fields.proofs.Integers.{up, dn}
 use Rattle.rules.proofs.Economics.Chosen.{Chosen, alike, agreed, single, lower-better, upper-better, both-tie}
 use Rattle.regions.specs.Regions.{low, high}
 use Rattle.site.specs.Site.{Within, Regions}
-use Rattle.choice.specs.declared.Curve as code
-use Rattle.choice.specs.Curve.{height, pricedAt}
+use Rattle.curve.specs.declared.Curve as code
+use Rattle.curve.specs.Curve.{height, pricedAt}
 use Rattle.choice.specs.Choosing.{Reaching, Running, Beside, Choosable}
 use Rattle.choice.proofs.Valley.{last-before, first-behind, compared, upper-only, both}
-use Rattle.choice.proofs.Heights.{valley, flat, priced-running}
+use Rattle.curve.proofs.Heights.{valley, flat, priced-running}
 
 module _ {ends : List ℕ} {begin end : ℕ} (r : Regions ends begin end) where
   -- ---- ends of regions rise

@@ -8,14 +8,9 @@ use lib.Signed.{_<ℤ_}
 use Rattle.rules.proofs.Economics.Chosen.{Chosen}
 use Rattle.regions.specs.Regions.{low, high}
 use Rattle.site.specs.Site.{Regions}
-use Rattle.choice.specs.Curve.{height, InRange}
-use Rattle.choice.specs.declared.Curve.{Curve}
+use Rattle.curve.specs.Curve.{height, InRange, Valley}
+use Rattle.curve.specs.declared.Curve.{Curve}
 use Rattle.choice.specs.declared.Choice.{Choice}
-
--- on from..to the function f falls strictly before v and rises strictly from v; of the step into v nothing is said
-pub record Valley (f : ℕ → ℤ) (from to v : ℕ) : Type 0 where
-  pub falls : (p q : ℕ) → from ≤ p → p < q → q ≤ to → q < v → f q <ℤ f p
-  pub rises : (p q : ℕ) → from ≤ p → p < q → q ≤ to → v ≤ p → f p <ℤ f q
 
 -- regions first to last that the arrays have
 pub record Places (first last : ℕ) : Type 0 where

@@ -1,2 +1,1 @@
-pub mod Curve
 pub mod Choosing

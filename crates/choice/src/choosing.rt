@@ -6,11 +6,11 @@ ghost use Prim.Native.Nat.{_+_, _≤_, _<_};
 ghost use Rattle.rules.specs.Choice.{better as later·of, earlier as earlier·of};
 ghost use Rattle.regions.specs.Regions.{high};
 ghost use Rattle.site.specs.Site.{Within};
-ghost use Rattle.choice.specs.Curve.{height, pricedAt, InRange};
+ghost use Rattle.curve.specs.Curve.{height, pricedAt, InRange};
 ghost use Rattle.choice.specs.Choosing.{Places, Reaching, Running, Beside, Choosable, Gives};
 use crate::Choice;
-use crate::Curve;
-use crate::units::priced_cost;
+use curve::Curve;
+use curve::priced_cost;
 
 // An output in 64 bits.
 fn wide(x: u16) -> u64

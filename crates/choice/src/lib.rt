@@ -1,19 +1,8 @@
-// One unit of a decoded site (crate `site`): its cost, net and priced cost at an output, and its choice at a multiplier with the least
-// output that ties with it. Each number is in range on 64 bits and equal to what crate `rules` defines.
+// The choice of one unit of a decoded site (crate `site`) at a multiplier, by its curve (crate `curve`): the output of least priced cost,
+// with the least output that ties with it.
 mod choosing;
-mod units;
 
 pub use choosing::choose;
-pub use units::cost_of;
-pub use units::curve_of;
-pub use units::net_of;
-
-// A unit's priced cost at a multiplier: square × p × p + linear × p + constant at a running output p.
-pub struct Curve {
-    pub square: u64,
-    pub linear: i64,
-    pub constant: u64,
-}
 
 // A unit's outputs of least priced cost: the greatest, which is its choice, and the least, to which it may be lowered; `tied` is false
 // only where the two are one.

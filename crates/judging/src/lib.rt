@@ -76,8 +76,8 @@ fn sum_outputs(
         if !lies_within(ends, first, last, p) {
             return Summed::NotPermitted;
         }
-        cost += choice::cost_of(coefficients, i, p as u16);
-        net += choice::net_of(coefficients, i, p as u16);
+        cost += curve::cost_of(coefficients, i, p as u16);
+        net += curve::net_of(coefficients, i, p as u16);
         i += 1;
     }
     Summed::Permitted { cost, net }

@@ -19,13 +19,13 @@ fn lower_unit(
         return s;
     }
     let Sums { cost, net } = s;
-    let after = net - choice::net_of(coefficients, i, p) + choice::net_of(coefficients, i, l);
+    let after = net - curve::net_of(coefficients, i, p) + curve::net_of(coefficients, i, l);
     if after < target {
         return s;
     }
     outputs[i] = l;
     Sums {
-        cost: cost - choice::cost_of(coefficients, i, p) + choice::cost_of(coefficients, i, l),
+        cost: cost - curve::cost_of(coefficients, i, p) + curve::cost_of(coefficients, i, l),
         net: after,
     }
 }

@@ -14,12 +14,12 @@ use Rattle.rules.proofs.Economics.Chosen.{Chosen, Among, some-among, unique, al
 use Rattle.rules.proofs.Economics.Allocations.{Proper, Available, dual-is, at-most-greatest}
 use Rattle.regions.specs.Regions.{low, high}
 use Rattle.site.specs.Site.{first, last, Within, noOffer, HoldsOffer, HoldsProblem}
-use Rattle.choice.specs.declared.Curve as code
-use Rattle.choice.specs.Curve.{pricedAt, IsCurve, InRange}
+use Rattle.curve.specs.declared.Curve as code
+use Rattle.curve.specs.Curve.{pricedAt, IsCurve, InRange}
 use Rattle.choice.specs.Choosing.{Choosable}
 use Rattle.pricing.specs.declared.Sums as code-sums
 use Rattle.pricing.specs.Totals.{Allocates}
-use Rattle.choice.proofs.Heights.{priced-curve}
+use Rattle.curve.proofs.Heights.{priced-curve}
 use Rattle.choice.proofs.Regions.{small, to-highest, lowest, highest}
 
 greatest-at-most : (x : ℕ) (ps : List ℕ) → ((p : ℕ) → Among p ps → p ≤ x) → greatest ps ≤ x

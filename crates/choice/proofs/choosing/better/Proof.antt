@@ -7,7 +7,7 @@ use mir.Facts.{toZ-ofZ}
 use borrow.Author.Needs.{needs}
 use Rattle.fields.proofs.Integers.{itself, is-same, same, under, when-lt, when-ge}
 use Rattle.rules.proofs.Economics.Chosen.{prefers-lower, prefers-upper, prefers-both}
-use Rattle.choice.specs.Curve.{height}
+use Rattle.curve.specs.Curve.{height}
 use Rattle.choice.proofs.Giving.{said}
 use Rattle.choice.proofs.choosing.better.Statement.{statement}
 use Rattle.choice.proofs.choosing.better.Tie as tie

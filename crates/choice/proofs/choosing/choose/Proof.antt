@@ -12,10 +12,10 @@ use Rattle.fields.proofs.Integers.{Is, itself, is-pos, is-same, same, when-lt, 
 use Rattle.rules.proofs.Economics.Chosen.{Chosen}
 use Rattle.regions.specs.Regions.{high}
 use Rattle.site.specs.Site.{Within}
-use Rattle.choice.specs.Curve.{pricedAt}
+use Rattle.curve.specs.Curve.{pricedAt}
 use Rattle.choice.specs.Choosing.{Running}
 use Rattle.choice.proofs.Signed.{zero-bits, other-bits}
-use Rattle.choice.proofs.Heights.{priced-running, priced-standing}
+use Rattle.curve.proofs.Heights.{priced-running, priced-standing}
 use Rattle.choice.proofs.Regions.{small, from-lowest, runs, running-chosen, only-stands, behind-standing, stands-better, runs-better, stands-or-runs}
 use Rattle.choice.proofs.Giving.{gives-only, gives-both}
 use Rattle.choice.proofs.choosing.choose.Statement.{statement}

@@ -14,7 +14,7 @@ use borrow.Author.Tests.{eqb-true, eqb-false}
 use Rattle.fields.proofs.Integers.{Is, up, dn, back, cast, is-minus, fits, kept, not-negative, size-is, when-lt, when-ge}
 use Rattle.regions.specs.Regions.{low, high}
 use Rattle.choice.proofs.Signed.{is-quotient, is-remainder, zero-bits, other-bits}
-use Rattle.choice.proofs.Heights.{vertex-valley, vertex-from, vertex-to, vertex-level, vertex-falls}
+use Rattle.curve.proofs.Heights.{vertex-valley, vertex-from, vertex-to, vertex-level, vertex-falls}
 use Rattle.choice.proofs.Regions.{small, lowest, highest, past-highest, before-lowest, all-tied}
 use Rattle.choice.proofs.Giving.{gives-only, gives-both}
 use Rattle.choice.proofs.choosing.choose_running.Statement.{statement}

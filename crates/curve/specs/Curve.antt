@@ -5,10 +5,11 @@ use mathlib.Core.Bool.{cond}
 use mathlib.Core.List.{List}
 use lib.Dec.{eqb}
 use lib.IntN.{ℤ, pos, subℕ}
+use lib.Signed.{_<ℤ_}
 use Rattle.rules.specs.Unit.{Unit, linearFactor}
 use Rattle.fields.proofs.Integers.{up, dn, Is}
 use Rattle.site.specs.Site.{Coefficients}
-use Rattle.choice.specs.declared.Curve.{Curve}
+use Rattle.curve.specs.declared.Curve.{Curve}
 
 -- the curve's value at p
 unfoldable pub height : Curve → ℕ → ℤ
@@ -30,6 +31,11 @@ pub record InRange (c : Curve) : Type 0 where
   pub above : up (c .linear) ≤ 10000000000000
   pub below : dn (c .linear) ≤ 10000000000000
   pub constant : c .constant ≤ 1000000000000000
+
+-- on from..to the function f falls strictly before v and rises strictly from v; of the step into v nothing is said
+pub record Valley (f : ℕ → ℤ) (from to v : ℕ) : Type 0 where
+  pub falls : (p q : ℕ) → from ≤ p → p < q → q ≤ to → q < v → f q <ℤ f p
+  pub rises : (p q : ℕ) → from ≤ p → p < q → q ≤ to → v ≤ p → f p <ℤ f q
 
 -- ---- unit i of the arrays, which is some unit's, at an output and at a multiplier
 

@@ -1,10 +1,17 @@
-// One unit of a decoded site at an output: its cost, its net, and its priced cost as a curve.
+// One unit of a decoded site (crate `site`) at an output: its cost, its net, and its priced cost at a multiplier as a curve. Each number
+// is in range on 64 bits and equal to what crate `rules` defines.
 ghost use mathlib.Core.Path.{_≡_};
 ghost use Prim.Native.Nat.{_≤_};
 ghost use Rattle.rules.specs.Unit.{Unit, cost, net};
 ghost use Rattle.site.specs.Site.{Coefficients};
-ghost use Rattle.choice.specs.Curve.{height, InRange, AtOutput, AtMultiplier, IsCurve};
-use crate::Curve;
+ghost use Rattle.curve.specs.Curve.{height, InRange, AtOutput, AtMultiplier, IsCurve};
+
+// A unit's priced cost at a multiplier: square × p × p + linear × p + constant at a running output p.
+pub struct Curve {
+    pub square: u64,
+    pub linear: i64,
+    pub constant: u64,
+}
 
 // The cost of unit `i` at output `p`: nothing where it stands.
 pub fn cost_of(coefficients: &[u64; 160], i: usize, p: u16) -> u64

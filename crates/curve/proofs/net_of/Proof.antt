@@ -1,9 +1,9 @@
--- `choice::units::net_of` meets its contract: every product is in range (`Heights`).
+-- `curve::net_of` meets its contract: every product is in range (`Heights`).
 use native.Mathlib.Omega.{arith}
-use Rattle.choice.proofs.Heights.{at-output, net-computed}
+use Rattle.curve.proofs.Heights.{at-output, net-computed}
 use borrow.Author.Needs.{needs}
-use Rattle.choice.proofs.units.net_of.Statement.{statement}
-use Rattle.choice.proofs.units.net_of.Tie as tie
+use Rattle.curve.proofs.net_of.Statement.{statement}
+use Rattle.curve.proofs.net_of.Tie as tie
 
 mul-result-3 : tie.Need-mul-result-3
 mul-result-3 c = omega (arith, at-output (c .before .before .pre))

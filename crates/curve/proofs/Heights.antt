@@ -16,9 +16,8 @@ use Rattle.fields.proofs.Integers.{Is, up, dn, is-pos, is-sub, is-minus, cast, 
 use Rattle.rules.proofs.Sound.{Sound}
 use Rattle.rules.proofs.Economics.Quantities.{factor, cost-running, cost-standing, net-whole, priced-is}
 use Rattle.site.specs.Site.{factorAt, c0At, c1At, c2At, bAt, Coefficients}
-use Rattle.choice.specs.declared.Curve as code
-use Rattle.choice.specs.Curve.{height, pricedAt, IsCurve, InRange, AtOutput, AtMultiplier}
-use Rattle.choice.specs.Choosing.{Valley}
+use Rattle.curve.specs.declared.Curve as code
+use Rattle.curve.specs.Curve.{height, pricedAt, IsCurve, InRange, Valley, AtOutput, AtMultiplier}
 
 -- ---- numbers in range
 

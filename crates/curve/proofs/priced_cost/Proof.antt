@@ -1,4 +1,4 @@
--- `choice::units::priced_cost` meets its contract: each step is a difference of naturals that fits.
+-- `curve::priced_cost` meets its contract: each step is a difference of naturals that fits.
 use native.Mathlib.Nat.{mul-le-mul}
 use native.Mathlib.Omega.{arith}
 use Prim.Native.Nat.{ℕ, _+_, _*_, _≤_}
@@ -7,9 +7,9 @@ use mir.Syntax.{w64}
 use mir.Val.{SFits, toZ, ofZ}
 use borrow.Author.Needs.{needs}
 use Rattle.fields.proofs.Integers.{Is, up, dn, back, cast, is-add, is-product, fits, kept, same}
-use Rattle.choice.proofs.Heights.{height-is}
-use Rattle.choice.proofs.units.priced_cost.Statement.{statement}
-use Rattle.choice.proofs.units.priced_cost.Tie as tie
+use Rattle.curve.proofs.Heights.{height-is}
+use Rattle.curve.proofs.priced_cost.Statement.{statement}
+use Rattle.curve.proofs.priced_cost.Tie as tie
 
 linear-fits : (c : tie.Start) → SFits w64 (c .args .c .linear)
 linear-fits c = search needs

@@ -1,12 +1,12 @@
--- `choice::units::cost_of` meets its contract: every product is in range (`Heights`).
+-- `curve::cost_of` meets its contract: every product is in range (`Heights`).
 use mathlib.Core.Path.{sym}
 use native.Mathlib.Omega.{arith}
 use Prim.Native.Nat.{_-_}
-use Rattle.choice.proofs.Heights.{AtOutputRange, at-output, cost-computed}
+use Rattle.curve.proofs.Heights.{AtOutputRange, at-output, cost-computed}
 use Rattle.rules.proofs.Economics.Quantities.{cost-standing}
 use borrow.Author.Needs.{needs}
-use Rattle.choice.proofs.units.cost_of.Statement.{statement}
-use Rattle.choice.proofs.units.cost_of.Tie as tie
+use Rattle.curve.proofs.cost_of.Statement.{statement}
+use Rattle.curve.proofs.cost_of.Tie as tie
 
 range : (c : tie.After-result3) → let a = c .before .before .before .before .args in AtOutputRange (a .coefficients .now) (a .i) (a .p)
 range c = at-output (c .before .before .before .before .pre)

@@ -1,9 +1,9 @@
--- `choice::units::curve_of` meets its contract: the curve as it is computed is in range and the unit's (`Heights`).
+-- `curve::curve_of` meets its contract: the curve as it is computed is in range and the unit's (`Heights`).
 use native.Mathlib.Omega.{arith}
-use Rattle.choice.proofs.Heights.{at-multiplier, line-fits, curve-computed}
+use Rattle.curve.proofs.Heights.{at-multiplier, line-fits, curve-computed}
 use borrow.Author.Needs.{needs}
-use Rattle.choice.proofs.units.curve_of.Statement.{statement}
-use Rattle.choice.proofs.units.curve_of.Tie as tie
+use Rattle.curve.proofs.curve_of.Statement.{statement}
+use Rattle.curve.proofs.curve_of.Tie as tie
 
 mul-t16 : tie.Need-mul-t16
 mul-t16 c = omega (arith, at-multiplier (c .before .before .pre))
