@@ -14,7 +14,7 @@ use borrow.Author.Tests.{eq-eqb, ne-eqb, le-leb, lt-leb}
 use Rattle.rules.specs.Numbers.{dividedUp}
 use Rattle.rules.specs.Problem.{Problem, unitsOf, totalNet, target}
 use Rattle.rules.specs.Choice.{selected, dualValue, floor}
-use Rattle.pricing.specs.Totals.{HoldsOutputs, Sized}
+use Rattle.evaluation.specs.Totals.{HoldsOutputs, Sized}
 use Rattle.bisection.specs.declared.steps.Allocation as code-allocation
 use Rattle.bisection.specs.declared.steps.SearchState as code-state
 use Rattle.rules.specs.Stages.{Stage, atZero, atTop, halving, finished, nextMultiplier, halvingLeft, Standing, bestOf, stageAfter}

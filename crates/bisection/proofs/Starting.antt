@@ -4,8 +4,8 @@ use mathlib.Core.List.{List}
 use Rattle.rules.specs.Problem.{problemIn}
 use Rattle.rules.specs.Bisection.{greatestOutputs}
 use Rattle.rules.proofs.Demand3.{case-accepted}
-use Rattle.pricing.specs.Totals.{HoldsOutputs}
-use Rattle.pricing.specs.Step1.{First}
+use Rattle.evaluation.specs.Totals.{HoldsOutputs}
+use Rattle.evaluation.specs.Step1.{First}
 use Rattle.bisection.specs.declared.steps.Allocation as code-allocation
 use Rattle.bisection.specs.Search.{Holding}
 use Rattle.bisection.specs.Solving.{Solving}

@@ -12,8 +12,8 @@ use Rattle.rules.specs.Problem.{Problem, unitsOf, totalNet, target}
 use Rattle.rules.specs.Choice.{selected, dualValue, floor, greatestFloor}
 use Rattle.rules.specs.Bisection.{Found, greatestOutputs, found}
 use Rattle.site.specs.Site.{HoldsProblem}
-use Rattle.pricing.specs.declared.Sums.{Sums}
-use Rattle.pricing.specs.Totals.{HoldsOutputs, Sized}
+use Rattle.evaluation.specs.declared.Sums.{Sums}
+use Rattle.evaluation.specs.Totals.{HoldsOutputs, Sized}
 use Rattle.bisection.specs.declared.steps.Allocation as code-allocation
 use Rattle.bisection.specs.declared.steps.Found as code
 use Rattle.bisection.specs.declared.steps.SearchState as code-state

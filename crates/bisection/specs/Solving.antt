@@ -7,7 +7,7 @@ use lib.IntN.{ℤ, pos}
 use lib.Signed.{_≤ℤ_}
 use Rattle.rules.specs.Problem.{Problem}
 use Rattle.rules.specs.Bisection.{greatestOutputs, solvable}
-use Rattle.pricing.specs.Totals.{HoldsOutputs, Sized}
+use Rattle.evaluation.specs.Totals.{HoldsOutputs, Sized}
 use Rattle.bisection.specs.declared.steps.Allocation as code-allocation
 use Rattle.bisection.specs.Search.{sumsOf, Holding}
 

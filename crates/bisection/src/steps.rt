@@ -3,11 +3,11 @@ ghost use mathlib.Core.Path.{_≡_};
 ghost use mathlib.Core.Bool.{cond};
 ghost use Prim.Native.Nat.{_≤_};
 ghost use lib.Signed.{leZ};
-ghost use Rattle.pricing.specs.Totals.{Sized};
+ghost use Rattle.evaluation.specs.Totals.{Sized};
 ghost use Rattle.bisection.specs.Search.{Holding, Searchable, sumsOf, recorded, Begun, SearchesFrom, Searches};
+use evaluation::Evaluated;
+use evaluation::Sums;
 use lowering::lower;
-use pricing::Evaluated;
-use pricing::Sums;
 
 // Outputs of the units, with their cost and net together.
 pub struct Allocation {
@@ -101,7 +101,7 @@ pub fn search_from(
         }
         let m = (low + width) % 131072;
         width = width / 2;
-        let Evaluated { cost, net, ties } = pricing::evaluate(
+        let Evaluated { cost, net, ties } = evaluation::evaluate(
             coefficients,
             ends,
             ranges,
@@ -111,9 +111,9 @@ pub fn search_from(
             &mut least,
         );
         let s = Sums { cost, net };
-        let dual = pricing::dual_of(s, target, m);
+        let dual = evaluation::dual_of(s, target, m);
         note(trace, evaluations, m, dual);
-        floor = greater(pricing::floor_of(dual), floor);
+        floor = greater(evaluation::floor_of(dual), floor);
         evaluations += 1;
         if net >= target {
             let Sums { cost, net } = lower(coefficients, n, target, s, ties, &least, &mut outputs);

@@ -18,8 +18,8 @@ use Rattle.rules.specs.declared.Verdict.{Verdict}
 use Rattle.rules.specs.declared.Dispatched.{Dispatched}
 use Rattle.rules.proofs.Economics.Solution.{best-covers, floor-at-most-cost, greatest-floor-not-negative}
 use Rattle.rules.proofs.Demand3.{demand3}
-use Rattle.pricing.specs.Step1.{First}
-use Rattle.pricing.proofs.Offers.{held-proper}
+use Rattle.evaluation.specs.Step1.{First}
+use Rattle.evaluation.proofs.Offers.{held-proper}
 use Rattle.bisection.specs.declared.steps.Allocation as code-allocation
 use Rattle.bisection.specs.declared.steps.Found as code-found
 use Rattle.bisection.specs.Search.{Holding, Searches}

@@ -5,7 +5,7 @@ use mathlib.Core.List.{List}
 use lib.ListN.{length}
 use Rattle.rules.specs.Problem.{Problem, target}
 use Rattle.rules.specs.Bisection.{Found, greatestOutputs, replyOf, solve}
-use Rattle.pricing.specs.Totals.{HoldsOutputs}
+use Rattle.evaluation.specs.Totals.{HoldsOutputs}
 use Rattle.bisection.specs.declared.steps.Allocation as code-allocation
 use Rattle.bisection.specs.declared.steps.Found as code-found
 use Rattle.bisection.specs.Search.{sumsOf, Holding, HoldsFound}

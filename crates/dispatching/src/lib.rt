@@ -12,7 +12,7 @@ mod reply;
 
 use bisection::Allocation;
 use bisection::Found;
-use pricing::FirstBest;
+use evaluation::FirstBest;
 use reply::Reply;
 use reply::write_reply;
 use rules::Dispatched;
@@ -70,7 +70,7 @@ pub fn dispatch(file: &[u8], reply: &mut [u8]) -> Dispatched
     let mut ends = [0u16; 384];
     let mut ranges = [0u8; 64];
     let mut outputs = [0u16; 32];
-    let first = pricing::first_best(
+    let first = evaluation::first_best(
         file,
         &mut coefficients,
         &mut ends,

@@ -11,13 +11,13 @@ use Rattle.rules.specs.Problem.{Problem, offer, problemOf, problemIn, target}
 use Rattle.rules.proofs.Economics.Allocations.{Given}
 use Rattle.rules.proofs.Economics.Solution.{floor-at-most, greatest-floor-not-negative}
 use Rattle.site.specs.Site.{HoldsProblem, Site}
-use Rattle.pricing.proofs.Offers.{held-proper}
+use Rattle.evaluation.proofs.Offers.{held-proper}
 use Rattle.bisection.specs.declared.steps.Allocation as code-allocation
 use Rattle.bisection.specs.declared.steps.Found as code-found
 use Rattle.bisection.specs.Search.{Holding, Searches}
 use Rattle.bisection.specs.Solving.{Measurable, Solving}
 use Rattle.bisection.proofs.Starting.{holding, greatest-held}
-use Rattle.pricing.specs.Step1.{First}
+use Rattle.evaluation.specs.Step1.{First}
 use Rattle.judging.specs.declared.Judged.{Judged}
 use Rattle.judging.specs.Held.{SumHeld, JudgedOf, JudgedHeld}
 

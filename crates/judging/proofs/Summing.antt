@@ -14,7 +14,7 @@ use Rattle.rules.proofs.Economics.Chosen.{Among}
 use Rattle.rules.proofs.Economics.Allocations.{Given}
 use Rattle.rules.proofs.Economics.Quantities.{cost-range, net-range}
 use Rattle.site.specs.Site.{first, last, Within, Coefficients, noOffer, HoldsProblem}
-use Rattle.pricing.specs.Totals.{Sized}
+use Rattle.evaluation.specs.Totals.{Sized}
 use Rattle.judging.specs.Held.{Summable, Summing, SumHeld}
 
 abbrev units : List Offer → List Unit

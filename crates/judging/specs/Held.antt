@@ -11,7 +11,7 @@ use Rattle.rules.specs.Choice.{greatestFloor}
 use Rattle.rules.specs.Bisection.{greatestOutputs, found}
 use Rattle.rules.proofs.Economics.Allocations.{Given}
 use Rattle.site.specs.Site.{Within, HoldsProblem}
-use Rattle.pricing.specs.Totals.{Held, HoldsOutputs, Sized}
+use Rattle.evaluation.specs.Totals.{Held, HoldsOutputs, Sized}
 use Rattle.bisection.specs.declared.steps.Allocation as code-allocation
 use Rattle.bisection.specs.Search.{sumsOf, Holding}
 use Rattle.judging.specs.declared.Judged.{Judged}

@@ -10,7 +10,7 @@ ghost use Rattle.bisection.specs.Solving.{Solving};
 ghost use Rattle.judging.specs.Judging.{judged};
 ghost use Rattle.judging.specs.Held.{LiesTold, Summable, SumTold, JudgedHeld};
 use bisection::Allocation;
-use pricing::FirstBest;
+use evaluation::FirstBest;
 use rules::Refusal;
 
 // What is answered of the outputs.
@@ -122,7 +122,7 @@ pub fn judge(file: &[u8], outputs: &[u32]) -> Judged
     let mut ends = [0u16; 384];
     let mut ranges = [0u8; 64];
     let mut greatest = [0u16; 32];
-    let first = pricing::first_best(
+    let first = evaluation::first_best(
         file,
         &mut coefficients,
         &mut ends,

@@ -1,37 +1,52 @@
-// All units of a decoded site (crate `site`) together: their choices (crate `choice`) with the sums, the dual value and its floor; and
-// step 1 and the pricing call on a file's bytes. Each number is in range on 64 bits and equal to what crate `rules` defines.
-mod files;
-mod totals;
-
-pub use files::first_best;
-pub use files::price;
+// The pricing call: the dual value of a multiplier for a case file, and whether its choices cover the demand.
+ghost use mathlib.Core.Path.{_≡_};
+ghost use Rattle.rules.specs.Calls.{priced};
+use evaluation::Evaluated;
+use evaluation::FirstBest;
+use evaluation::Sums;
+use evaluation::dual_of;
+use evaluation::evaluate;
+use evaluation::first_best;
+use rules::Priced;
 use rules::Refusal;
-pub use totals::dual_of;
-pub use totals::evaluate;
-pub use totals::floor_of;
 
-// Cost and net of outputs together.
-pub struct Sums {
-    pub cost: u64,
-    pub net: u64,
-}
-
-// What an evaluation gives besides its arrays: cost and net of the choices together, and how many units tie; it is promised that 0 is
-// given only where no unit has a lower tied output.
-pub struct Evaluated {
-    pub cost: u64,
-    pub net: u64,
-    pub ties: u64,
-}
-
-// What checking, decoding and step 1 give besides the arrays: the number of units, the net that covers the demand, and the cost
-// and net of the greatest outputs, the first best.
-pub enum FirstBest {
-    Found {
-        count: usize,
-        target: u64,
-        cost: u64,
-        net: u64,
-    },
-    Refused(Refusal),
+// The dual value of multiplier `m`, and whether its choices cover the demand.
+pub fn price(file: &[u8], m: u32) -> Priced
+    ensures { λ r. ⌜ r ≡ priced (now (file .entry)) m ⌝ }
+{
+    if m > 65536 {
+        return Priced::Refused(Refusal::MultiplierOutOfRange);
+    }
+    let mut coefficients = [0u64; 160];
+    let mut ends = [0u16; 384];
+    let mut ranges = [0u8; 64];
+    let mut outputs = [0u16; 32];
+    let first = first_best(
+        file,
+        &mut coefficients,
+        &mut ends,
+        &mut ranges,
+        &mut outputs,
+    );
+    match first {
+        FirstBest::Refused(r) => Priced::Refused(r),
+        FirstBest::Found { count, target, .. } => {
+            let x = m as u64;
+            let mut choices = [0u16; 32];
+            let mut least = [0u16; 32];
+            let Evaluated { cost, net, .. } = evaluate(
+                &coefficients,
+                &ends,
+                &ranges,
+                count,
+                x,
+                &mut choices,
+                &mut least,
+            );
+            Priced::Valued {
+                dual: dual_of(Sums { cost, net }, target, x),
+                covers: target <= net,
+            }
+        }
+    }
 }

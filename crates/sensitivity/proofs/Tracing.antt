@@ -24,7 +24,7 @@ use Rattle.rules.proofs.Economics.Solution.{evaluated, same-cost, same-net, giv
 use Rattle.rules.proofs.Economics.Totals.{total-cost-range, total-net-range}
 use Rattle.rules.proofs.Demand3.{case-accepted, allocation-small}
 use Rattle.rules.proofs.Replied.{few-units}
-use Rattle.pricing.specs.Step1.{First}
+use Rattle.evaluation.specs.Step1.{First}
 use Rattle.bisection.specs.declared.steps.Found as code-found
 use Rattle.bisection.specs.Search.{Holding, multiplierAt, dualAt, Traces, Searches}
 use Rattle.bisection.proofs.Starting.{holding, greatest-held}

@@ -10,7 +10,7 @@ ghost use Rattle.rules.specs.Lists.{all};
 ghost use Rattle.sensitivity.specs.Floors.{floored};
 ghost use Rattle.sensitivity.specs.Held.{Shifted, Traced, GreatestDual, Writable, FloorsWritten};
 use bisection::Allocation;
-use pricing::FirstBest;
+use evaluation::FirstBest;
 use rules::Refusal;
 
 // How many floors were written, or why none were.
@@ -66,7 +66,7 @@ fn write_floors(trace: &[i64], count: usize, target: u64, demands: &[u32], floor
 {
     let mut j = 0;
     while j < demands.len() {
-        floors[j] = pricing::floor_of(greatest_dual(trace, count, shift(target, demands[j])));
+        floors[j] = evaluation::floor_of(greatest_dual(trace, count, shift(target, demands[j])));
         j += 1;
     }
 }
@@ -85,7 +85,7 @@ pub fn floors(file: &[u8], demands: &[u32], floors: &mut [i64]) -> Floored
     let mut ends = [0u16; 384];
     let mut ranges = [0u8; 64];
     let mut outputs = [0u16; 32];
-    let first = pricing::first_best(
+    let first = evaluation::first_best(
         file,
         &mut coefficients,
         &mut ends,

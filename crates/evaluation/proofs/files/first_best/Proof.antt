@@ -1,13 +1,13 @@
--- `pricing::files::first_best` meets its contract: decoding refuses the case, or gives a site, of which step 1 decides (`Step1`).
+-- `evaluation::files::first_best` meets its contract: decoding refuses the case, or gives a site, of which step 1 decides (`Step1`).
 use Prim.Native.Nat.{ℕ}
 use mathlib.Core.Path.{subst}
 use native.Mathlib.Omega.{arith}
 use denote.Ref.{now}
 use borrow.Author.Needs.{needs}
 use Rattle.site.specs.Site.{Site, Decodes}
-use Rattle.pricing.proofs.Step1.{uncovered, covered}
-use Rattle.pricing.proofs.files.first_best.Statement.{statement}
-use Rattle.pricing.proofs.files.first_best.Tie as tie
+use Rattle.evaluation.proofs.Step1.{uncovered, covered}
+use Rattle.evaluation.proofs.files.first_best.Statement.{statement}
+use Rattle.evaluation.proofs.files.first_best.Tie as tie
 
 abbrev entry : tie.After-decode → tie.Start
 entry c = c .before .before .before .before .before

@@ -1,14 +1,14 @@
--- `pricing::files::price` meets its contract: each return is a case of `Step1`.
+-- `pricing::price` meets its contract: each return is a case of `Step1`.
 use mathlib.Core.Path.{subst}
 use mir.Syntax.{w64}
 use mir.Facts.{toZ-ofZ}
 use denote.Ref.{now}
 use borrow.Author.Needs.{needs}
 use Rattle.fields.proofs.Integers.{is-same}
-use Rattle.pricing.specs.Step1.{First, FindsFirst}
-use Rattle.pricing.proofs.Step1.{multiplier-refused, case-refused, dualable, valued}
-use Rattle.pricing.proofs.files.price.Statement.{statement}
-use Rattle.pricing.proofs.files.price.Tie as tie
+use Rattle.evaluation.specs.Step1.{First, FindsFirst}
+use Rattle.evaluation.proofs.Step1.{multiplier-refused, case-refused, dualable, valued}
+use Rattle.pricing.proofs.price.Statement.{statement}
+use Rattle.pricing.proofs.price.Tie as tie
 
 returns : tie.Need-returns
 returns c = multiplier-refused (now (c .before .before .args .file)) (c .if1 .taken)

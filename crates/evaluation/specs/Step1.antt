@@ -6,8 +6,8 @@ use Rattle.rules.specs.Lists.{greatest}
 use Rattle.rules.specs.Calls.{caseVerdict}
 use Rattle.rules.specs.declared.Verdict.{Verdict}
 use Rattle.site.specs.Site.{Site}
-use Rattle.pricing.specs.declared.FirstBest.{FirstBest}
-use Rattle.pricing.specs.Totals.{Allocates}
+use Rattle.evaluation.specs.declared.FirstBest.{FirstBest}
+use Rattle.evaluation.specs.Totals.{Allocates}
 
 pub record First (file coefficients ends ranges outputs : List ℕ) (n t c w : ℕ) : Type 0 where
   pub accepted : caseVerdict file ≡ Verdict.Accepted

@@ -21,11 +21,11 @@ use Rattle.rules.proofs.Lists.{every-from, all-every}
 use Rattle.fields.proofs.Integers.{Is}
 use Rattle.rules.proofs.Economics.Chosen.{some-among}
 use Rattle.site.specs.Site.{noOffer, HoldsOffer, HoldsProblem, Site}
-use Rattle.pricing.specs.declared.Sums as code
-use Rattle.pricing.specs.Totals.{Allocates, Dualable}
-use Rattle.pricing.specs.Step1.{First}
+use Rattle.evaluation.specs.declared.Sums as code
+use Rattle.evaluation.specs.Totals.{Allocates, Dualable}
+use Rattle.evaluation.specs.Step1.{First}
 use Rattle.choice.proofs.Regions.{lowest}
-use Rattle.pricing.proofs.Offers.{dual-held}
+use Rattle.evaluation.proofs.Offers.{dual-held}
 
 -- ---- the verdict on the case
 

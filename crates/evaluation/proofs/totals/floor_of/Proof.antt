@@ -1,4 +1,4 @@
--- `pricing::totals::floor_of` meets its contract: the quotient is rounded toward 0, so up for what is not above 0, and one more than the quotient of x − 1 for what is.
+-- `evaluation::totals::floor_of` meets its contract: the quotient is rounded toward 0, so up for what is not above 0, and one more than the quotient of x − 1 for what is.
 use Prim.Native.Nat.{_+_, _<_, _≤_}
 use native.Mathlib.Omega.{arith}
 use lib.Dec.{lit<}
@@ -6,9 +6,9 @@ use lib.IntN.{pos, _-ℤ_}
 use mir.Syntax.{w64}
 use mir.Val.{toZ, ofZ}
 use Rattle.fields.proofs.Integers.{Is, up, dn, back, is-pos, is-minus, is-add, is-quot, fits, kept, same, one-zero, fits-up, fits-dn, when-le, when-gt}
-use Rattle.pricing.proofs.Floor.{floor-is}
-use Rattle.pricing.proofs.totals.floor_of.Statement.{statement}
-use Rattle.pricing.proofs.totals.floor_of.Tie as tie
+use Rattle.evaluation.proofs.Floor.{floor-is}
+use Rattle.evaluation.proofs.totals.floor_of.Statement.{statement}
+use Rattle.evaluation.proofs.totals.floor_of.Tie as tie
 
 -- what the test tells; and x − 1, as it is read
 below : (c : tie.Then1) → up (c .before .args .dual) ≤ dn (c .before .args .dual)

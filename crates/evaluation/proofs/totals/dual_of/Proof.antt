@@ -1,4 +1,4 @@
--- `pricing::totals::dual_of` meets its contract: the range of all that the dual value is made of, and the value as it is computed.
+-- `evaluation::totals::dual_of` meets its contract: the range of all that the dual value is made of, and the value as it is computed.
 use Prim.Native.Nat.{_+_, _*_, _≤_}
 use native.Mathlib.Nat.{mul-le-mul}
 use native.Mathlib.Omega.{arith}
@@ -7,8 +7,8 @@ use mir.Syntax.{w64}
 use mir.Val.{toZ}
 use borrow.Author.Needs.{needs}
 use Rattle.fields.proofs.Integers.{Is, is-minus, cast, fits, kept}
-use Rattle.pricing.proofs.totals.dual_of.Statement.{statement}
-use Rattle.pricing.proofs.totals.dual_of.Tie as tie
+use Rattle.evaluation.proofs.totals.dual_of.Statement.{statement}
+use Rattle.evaluation.proofs.totals.dual_of.Tie as tie
 
 module _ (c : tie.Start) where
   demanded : c .args .m * c .args .target ≤ 2097152000000000000

@@ -17,8 +17,8 @@ use Rattle.site.specs.Site.{first, last, Within, noOffer, HoldsOffer, HoldsProb
 use Rattle.curve.specs.declared.Curve as code
 use Rattle.curve.specs.Curve.{pricedAt, IsCurve, InRange}
 use Rattle.choice.specs.Choosing.{Choosable}
-use Rattle.pricing.specs.declared.Sums as code-sums
-use Rattle.pricing.specs.Totals.{Allocates}
+use Rattle.evaluation.specs.declared.Sums as code-sums
+use Rattle.evaluation.specs.Totals.{Allocates}
 use Rattle.curve.proofs.Heights.{priced-curve}
 use Rattle.choice.proofs.Regions.{small, to-highest, lowest, highest}
 

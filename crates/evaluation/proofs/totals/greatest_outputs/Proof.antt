@@ -1,4 +1,4 @@
--- `pricing::totals::greatest_outputs` meets its contract: the loop keeps what `Allocating` says of the greatest outputs.
+-- `evaluation::totals::greatest_outputs` meets its contract: the loop keeps what `Allocating` says of the greatest outputs.
 use Prim.Native.Nat.{ℕ, _+_, _-_, _<_}
 use mathlib.Core.Path.{_≡_, refl}
 use native.Mathlib.Omega.{arith}
@@ -9,11 +9,11 @@ use Rattle.rules.specs.Problem.{Offer, Problem}
 use Rattle.rules.proofs.Economics.Quantities.{cost-range}
 use Rattle.regions.specs.Regions.{high}
 use Rattle.site.specs.Site.{last, noOffer, HoldsOffer, HoldsProblem}
-use Rattle.pricing.specs.Totals.{Held, Sized}
-use Rattle.pricing.proofs.Offers.{greatest-held, greatest-small}
-use Rattle.pricing.proofs.Allocating.{Allocating, allocating-starts, offered, sized-more, allocating-more, allocating-ends}
-use Rattle.pricing.proofs.totals.greatest_outputs.Statement.{statement}
-use Rattle.pricing.proofs.totals.greatest_outputs.Tie as tie
+use Rattle.evaluation.specs.Totals.{Held, Sized}
+use Rattle.evaluation.proofs.Offers.{greatest-held, greatest-small}
+use Rattle.evaluation.proofs.Allocating.{Allocating, allocating-starts, offered, sized-more, allocating-more, allocating-ends}
+use Rattle.evaluation.proofs.totals.greatest_outputs.Statement.{statement}
+use Rattle.evaluation.proofs.totals.greatest_outputs.Tie as tie
 
 abbrev top : Offer → ℕ
 top o = greatest (o .outputs)
