@@ -29,16 +29,18 @@ static int losses_out_of_range(uint32_t b, int32_t b1)
     return b1 < -EDITION2_B1_MAX || b1 > EDITION2_B1_MAX || b1 + 19999 * (int64_t)b >= 100000000;
 }
 
-/* Least, the edges in use and greatest rise. */
+/* Least, the edges in use and greatest rise; but a zone may start where the one before ends. */
 static int limits_invalid(const uint32_t *row)
 {
     uint32_t below = row[SHAHFUREEL_ROW_LEAST];
     if (below < 1 || row[SHAHFUREEL_ROW_GREATEST] > OUTPUT_MAX)
         return 1;
     for (uint32_t k = 0; k < 2 * row[SHAHFUREEL_ROW_ZONES]; k++) {
-        if (row[SHAHFUREEL_ROW_EDGES + k] <= below)
+        uint32_t edge = row[SHAHFUREEL_ROW_EDGES + k];
+        int may_share = k > 0 && k % 2 == 0;
+        if (edge < below || (edge == below && !may_share))
             return 1;
-        below = row[SHAHFUREEL_ROW_EDGES + k];
+        below = edge;
     }
     return row[SHAHFUREEL_ROW_GREATEST] <= below;
 }

@@ -196,8 +196,9 @@ static void make_row(uint32_t *row)
     row[SHAHFUREEL_ROW_C2] = below(1001);
     row[SHAHFUREEL_ROW_B] = below(2) ? 5000 - below(600) : below(5001);
     row[SHAHFUREEL_ROW_LEAST] = limit;
+    /* one edge in eight equals the number before it: a zone that starts where the one before ends, or one that is refused */
     for (uint32_t k = 0; k < 2 * zones; k++)
-        row[SHAHFUREEL_ROW_EDGES + k] = limit += 1 + below(600);
+        row[SHAHFUREEL_ROW_EDGES + k] = limit += below(8) ? 1 + below(600) : 0;
     row[SHAHFUREEL_ROW_GREATEST] = below(4) ? limit + 1 + below(600) : 10000;
     row[SHAHFUREEL_ROW_PREVIOUS] = below(2) * below(10001);
     row[SHAHFUREEL_ROW_UP] = below(10001);
