@@ -9,47 +9,19 @@ use borrow.Author.Tests.{lt-ltb, le-ltb}
 use Rattle.rules.specs.Lists.{over}
 use Rattle.rules.specs.Refusal.{fileVerdict}
 use Rattle.rules.specs.Problem.{problemIn}
-use Rattle.rules.specs.Bisection.{found, solve}
+use Rattle.rules.specs.Bisection.{solve}
 use Rattle.rules.specs.Calls.{DispatchResult, replyBytes, caseVerdict, dispatchVerdict, dispatchEnds, dispatched}
 use Rattle.rules.specs.Promise.{Promise}
 use Rattle.rules.specs.declared.Refusal.{Refusal}
 use Rattle.rules.specs.declared.Refusal.the-variants.{BufferTooShort}
 use Rattle.rules.specs.declared.Verdict.{Verdict}
 use Rattle.rules.specs.declared.Dispatched.{Dispatched}
-use Rattle.rules.proofs.Economics.Solution.{best-covers, floor-at-most-cost, greatest-floor-not-negative}
 use Rattle.rules.proofs.Demand3.{demand3}
 use Rattle.evaluation.specs.Step1.{First}
-use Rattle.evaluation.proofs.Offers.{held-proper}
-use Rattle.bisection.specs.declared.steps.Allocation as code-allocation
-use Rattle.bisection.specs.declared.steps.Found as code-found
-use Rattle.bisection.specs.Search.{Holding, Searches}
-use Rattle.bisection.specs.Solving.{Solving}
 use Rattle.bisection.proofs.Starting.{holding, greatest-held}
-use Rattle.dispatching.specs.declared.reply.Reply as code-reply
-use Rattle.dispatching.specs.ReplyHeld.{replyHeld}
-use Rattle.dispatching.specs.Solved.{Stateable, States, Solves}
-
--- what the search found can be stated
-pub stateable : {coefficients ends ranges : List ℕ} {n t : ℕ} {first : code-allocation.Allocation} (s : Solving coefficients ends ranges n t first) {f : code-found.Found} {trace : List ℤ} → Searches (Holding coefficients ends ranges n t) n first f trace → Stateable t f
-stateable {t = t} s {f} {trace} h =
-    let q = s .problem in
-    let p = s .holds .problem in
-    let found = h .held q (s .holds) (s .greatest) .found in
-    let proper = held-proper p in
-    record {
-      covers = omega (arith, best-covers q proper (s .solves), found .best .net, s .holds .demanded);
-      measurable =
-          record {
-            range = omega (arith, h .sized .cost, p .few);
-            above = rw (found .floor, found .best .cost) (floor-at-most-cost q proper (s .solves));
-            positive = rw (found .floor) (greatest-floor-not-negative q proper (s .solves));
-          };
-    }
-
--- and what is stated is the rules' solution
-pub solved : {coefficients ends ranges : List ℕ} {n t : ℕ} {first : code-allocation.Allocation} {f : code-found.Found} {r : code-reply.Reply} {trace : List ℤ} → States t f r → Searches (Holding coefficients ends ranges n t) n first f trace → Solves coefficients ends ranges n t first r
-unfolding solve
-solved {r = r} s h = record { held = λ q i g. subst (λ (k : ℕ). replyHeld k r ≡ solve q) (i .problem .count) (s .held q (i .demanded) (found q) (h .held q i g .found)) }
+use Rattle.solving.specs.declared.Reply as code-reply
+use Rattle.solving.specs.ReplyHeld.{replyHeld}
+use Rattle.solving.specs.Solved.{Solves}
 
 -- the solution of what step 1 found is the file's
 pub solution : {file coefficients ends ranges outputs : List ℕ} {n t c w : ℕ} → First file coefficients ends ranges outputs n t c w → {r : code-reply.Reply} → Solves coefficients ends ranges n t (record { outputs = outputs; cost = c; net = w }) r → replyHeld n r ≡ solve (problemIn file)

@@ -1,3 +1,2 @@
 pub mod ReplyWritten
-pub mod Stating
 pub mod Endings

@@ -10,8 +10,8 @@ use Rattle.rules.specs.Calls.{replyBytes}
 use Rattle.rules.proofs.Encoding.Pieces.{length-each-bytes}
 use Rattle.rules.proofs.Encoding.ReplyBytes.{length-reply}
 use Rattle.rules.proofs.Encoding.Front.{lent, givenBack, front-none, front-field, front-tail, front-over}
-use Rattle.dispatching.specs.ReplyHeld.{replyHeld}
-use Rattle.dispatching.specs.declared.reply.Reply as code
+use Rattle.solving.specs.ReplyHeld.{replyHeld}
+use Rattle.solving.specs.declared.Reply as code
 
 module _ (s₀ : List ℕ) (n : ℕ) (r : code.Reply) (few : n ≤ length (r .outputs)) where
   count : length (take n (r .outputs)) ≡ n

@@ -1,62 +1,19 @@
-// Dispatch, from a case file's bytes to the reply's: check and decode, search (crate `bisection`), write.
+// Dispatch, from a case file's bytes to the reply's: check and decode, solve (crate `solving`), write.
 ghost use mathlib.Core.Path.{_≡_};
 ghost use Prim.Native.Nat.{_≤_};
 ghost use lib.ListN.{length};
 ghost use Rattle.rules.specs.Refusal.{fileVerdict};
 ghost use Rattle.rules.specs.Calls.{dispatched};
 ghost use Rattle.rules.specs.Promise.{Promise};
-ghost use Rattle.bisection.specs.Solving.{Solving};
-ghost use Rattle.dispatching.specs.Solved.{Stateable, States, Solves};
 
 mod reply;
 
 use bisection::Allocation;
-use bisection::Found;
 use evaluation::FirstBest;
-use reply::Reply;
 use reply::write_reply;
 use rules::Dispatched;
 use rules::Refusal;
 use rules::Verdict;
-
-// What the reply states of what the search found, for the net `target` that covers the demand.
-fn stated(target: u64, f: Found) -> Reply
-    requires { ⌜ Stateable target f ⌝ }
-    ensures { λ r. ⌜ States target f r ⌝ }
-{
-    let Found {
-        best,
-        floor,
-        evaluations,
-    } = f;
-    let Allocation { outputs, cost, net } = best;
-    Reply {
-        evaluations,
-        cost,
-        gap: bisection::distance(cost, floor),
-        surplus: net - target,
-        outputs,
-    }
-}
-
-// The solution of a problem that step 1 accepts; `first` are its greatest outputs.
-fn solve(
-    coefficients: &[u64; 160],
-    ends: &[u16; 384],
-    ranges: &[u8; 64],
-    n: usize,
-    target: u64,
-    first: Allocation,
-) -> Reply
-    requires { ⌜ Solving (now coefficients) (now ends) (now ranges) n target first ⌝ }
-    ensures { λ r. ⌜ Solves (now (coefficients .entry)) (now (ends .entry)) (now (ranges .entry)) n target first r ⌝ }
-{
-    let mut trace = [0i64; 0];
-    stated(
-        target,
-        bisection::search(coefficients, ends, ranges, n, target, first, &mut trace),
-    )
-}
 
 // Dispatches the case file: writes the reply and gives its length, or refuses and leaves the reply's bytes as they were.
 pub fn dispatch(file: &[u8], reply: &mut [u8]) -> Dispatched
@@ -89,7 +46,7 @@ pub fn dispatch(file: &[u8], reply: &mut [u8]) -> Dispatched
             Dispatched::Replied(write_reply(
                 reply,
                 count,
-                solve(&coefficients, &ends, &ranges, count, target, best),
+                solving::solve(&coefficients, &ends, &ranges, count, target, best),
             ))
         }
     }

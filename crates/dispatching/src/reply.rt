@@ -5,16 +5,8 @@ ghost use lib.ListN.{length, take};
 ghost use Rattle.fields.specs.Field.{bytesOfEach};
 ghost use Rattle.rules.specs.Lists.{over};
 ghost use Rattle.rules.specs.Calls.{replyBytes};
-ghost use Rattle.dispatching.specs.ReplyHeld.{replyHeld};
-
-// What the reply states, besides the number of units.
-pub struct Reply {
-    pub evaluations: u16,
-    pub cost: u64,
-    pub gap: u64,
-    pub surplus: u64,
-    pub outputs: [u16; 32],
-}
+ghost use Rattle.solving.specs.ReplyHeld.{replyHeld};
+use solving::Reply;
 
 // Writes the first `n` outputs, 16 bits each, from the start of `s` on.
 fn write_outputs(s: &mut [u8], outputs: [u16; 32], n: usize)

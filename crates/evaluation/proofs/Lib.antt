@@ -1,4 +1,4 @@
 pub mod Floor
 pub mod Offers
 pub mod Allocating
-pub mod Step1
+pub mod Covering

@@ -4,6 +4,7 @@ mod files;
 mod totals;
 
 pub use files::first_best;
+pub use files::step1;
 use rules::Refusal;
 pub use totals::dual_of;
 pub use totals::evaluate;

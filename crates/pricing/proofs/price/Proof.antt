@@ -1,4 +1,4 @@
--- `pricing::price` meets its contract: each return is a case of `Step1`.
+-- `pricing::price` meets its contract: each return is a case of `Covering`.
 use mathlib.Core.Path.{subst}
 use mir.Syntax.{w64}
 use mir.Facts.{toZ-ofZ}
@@ -6,7 +6,7 @@ use denote.Ref.{now}
 use borrow.Author.Needs.{needs}
 use Rattle.fields.proofs.Integers.{is-same}
 use Rattle.evaluation.specs.Step1.{First, FindsFirst}
-use Rattle.evaluation.proofs.Step1.{multiplier-refused, case-refused, dualable, valued}
+use Rattle.evaluation.proofs.Covering.{multiplier-refused, case-refused, dualable, valued}
 use Rattle.pricing.proofs.price.Statement.{statement}
 use Rattle.pricing.proofs.price.Tie as tie
 

@@ -1,5 +1,5 @@
--- Step 1 of a file whose problem the arrays hold: every unit has an output, so that the case is accepted exactly if the greatest outputs cover. And what pricing answers, case by case.
-use mathlib.Core.Path.{_≡_, ap₂}
+-- Step 1 on the arrays: every unit of a problem that they hold has an output, so that it is solvable exactly if the greatest outputs cover; and so of the file that they were decoded from. And what pricing answers, case by case.
+use mathlib.Core.Path.{_≡_, refl, ap₂}
 use mathlib.Core.Bool.{Bool, true, false}
 use mathlib.Core.List.{List}
 use Prim.Native.Nat.{ℕ, _+_, _*_, _≤_, _<_}
@@ -23,7 +23,8 @@ use Rattle.rules.proofs.Economics.Chosen.{some-among}
 use Rattle.site.specs.Site.{noOffer, HoldsOffer, HoldsProblem, Site}
 use Rattle.evaluation.specs.declared.Sums as code
 use Rattle.evaluation.specs.Totals.{Allocates, Dualable}
-use Rattle.evaluation.specs.Step1.{First}
+use Rattle.evaluation.specs.Step1.{Steps, First, FindsFirst}
+use Rattle.evaluation.specs.declared.FirstBest.{FirstBest}
 use Rattle.choice.proofs.Regions.{lowest}
 use Rattle.evaluation.proofs.Offers.{dual-held}
 
@@ -38,22 +39,22 @@ held-some {o = o} h = lt-ltb 0 (length (o .outputs)) (some-among _ (o .outputs) 
 every-some : {coefficients ends ranges : List ℕ} {n : ℕ} {q : Problem} → HoldsProblem coefficients ends ranges n q → all offersSome (q .offers) ≡ true
 every-some {q = q} h = all-every offersSome (q .offers) .1 (every-from (λ o. offersSome o ≡ true) (q .offers) noOffer (λ i l. held-some (h .offers i (omega (arith, h .count)))))
 
-module _ {file coefficients ends ranges : List ℕ} {n t : ℕ} (s : Site file coefficients ends ranges n t) {outputs : List ℕ} {c w : ℕ} (a : Allocates (λ o. greatest (o .outputs)) coefficients ends ranges n outputs (record { cost = c; net = w })) where
-  greatest-net : w ≡ totalNet (unitsOf (problemIn file)) (greatestOutputs (problemIn file))
-  unfolding greatestOutputs
-  greatest-net = a .held (problemIn file) (s .holds) .net
+module _ {coefficients ends ranges : List ℕ} {n t : ℕ} {outputs : List ℕ} {c w : ℕ} (a : Allocates (λ o. greatest (o .outputs)) coefficients ends ranges n outputs (record { cost = c; net = w })) where
+  solved : (q : Problem) → HoldsProblem coefficients ends ranges n q → t ≡ target q → (b : Bool) → leb t w ≡ b → solvable q ≡ b
+  unfolding solvable greatestOutputs
+  solved q h d b e = rw (every-some h, ← d, ← a .held q h .net) e
 
-  solved : (b : Bool) → leb t w ≡ b → solvable (problemIn file) ≡ b
-  unfolding solvable
-  solved b e = rw (every-some (s .holds), ← s .demanded, ← greatest-net) e
+  pub uncovered : w < t → Steps coefficients ends ranges n t outputs (FirstBest.Refused NoAllocation)
+  uncovered k = record { refusal = refl; unsolved = λ q h d. solved q h d false (lt-leb t w k) }
 
-  pub uncovered : w < t → caseVerdict file ≡ Refused NoAllocation
-  unfolding caseVerdict
-  uncovered h = rw (s .accepted, solved false (lt-leb t w h))
+  pub covered : t ≤ w → Steps coefficients ends ranges n t outputs (FirstBest.Found n t c w)
+  covered k = record { count = refl; demanded = refl; allocates = a; solves = λ q h d. solved q h d true (le-leb t w k) }
 
-  pub covered : t ≤ w → First file coefficients ends ranges outputs n t c w
-  unfolding caseVerdict
-  covered h = record { accepted = rw (s .accepted, solved true (le-leb t w h)); site = s; allocates = a }
+-- step 1 of the file whose problem the arrays hold
+pub of-file : {file coefficients ends ranges : List ℕ} {n t : ℕ} (s : Site file coefficients ends ranges n t) (outputs : List ℕ) (r : FirstBest) → Steps coefficients ends ranges n t outputs r → FindsFirst file coefficients ends ranges outputs r
+unfolding caseVerdict
+of-file {file} s outputs (FirstBest.Found n′ t′ c w) k = rw (k .count, k .demanded) (record { accepted = rw (s .accepted, k .solves (problemIn file) (s .holds) (s .demanded)); site = s; allocates = k .allocates })
+of-file {file} s outputs (FirstBest.Refused r) k = rw (k .refusal, s .accepted, k .unsolved (problemIn file) (s .holds) (s .demanded))
 
 -- ---- what pricing answers
 

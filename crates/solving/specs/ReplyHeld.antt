@@ -2,7 +2,7 @@
 use Prim.Native.Nat.{ℕ}
 use lib.ListN.{take}
 use Rattle.rules.specs.Bisection.{Reply}
-use Rattle.dispatching.specs.declared.reply.Reply as code
+use Rattle.solving.specs.declared.Reply as code
 
 -- the reply for n units: the first n outputs are theirs
 abbrev pub replyHeld : ℕ → code.Reply → Reply

@@ -1,8 +1,8 @@
--- `dispatching::solve` meets its contract: what the search found can be stated, and is the rules' solution (`Endings`).
+-- `solving::solve` meets its contract: what the search found can be stated, and is the rules' solution (`Solved`).
 use borrow.Author.Needs.{needs}
-use Rattle.dispatching.proofs.Endings.{stateable, solved}
-use Rattle.dispatching.proofs.solve.Statement.{statement}
-use Rattle.dispatching.proofs.solve.Tie as tie
+use Rattle.solving.proofs.Solved.{stateable, solved}
+use Rattle.solving.proofs.solve.Statement.{statement}
+use Rattle.solving.proofs.solve.Tie as tie
 
 slice-aggregate-search : tie.Need-slice-aggregate-search
 slice-aggregate-search c = search needs

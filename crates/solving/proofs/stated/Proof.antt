@@ -1,4 +1,4 @@
--- `dispatching::stated` meets its contract: the gap is the distance of the cost above the floor, and the surplus is exact (`Stating`).
+-- `solving::stated` meets its contract: the gap is the distance of the cost above the floor, and the surplus is exact (`Stating`).
 use mathlib.Core.Path.{_∙_, ap}
 use lib.IntN.{ℤ, pos, _-ℤ_}
 use mir.Syntax.{w64}
@@ -6,9 +6,9 @@ use mir.Val.{SFits}
 use mir.Facts.{toZ-ofZ}
 use borrow.Author.Needs.{needs}
 use Rattle.rules.specs.Numbers.{natural}
-use Rattle.dispatching.proofs.Stating.{states}
-use Rattle.dispatching.proofs.stated.Statement.{statement}
-use Rattle.dispatching.proofs.stated.Tie as tie
+use Rattle.solving.proofs.Stating.{states}
+use Rattle.solving.proofs.stated.Statement.{statement}
+use Rattle.solving.proofs.stated.Tie as tie
 
 -- what every struct of the type holds, as it is read
 floor-fits : (c : tie.Start) → SFits w64 (c .args .f .floor)

@@ -10,8 +10,8 @@ use Rattle.bisection.specs.declared.steps.Allocation as code-allocation
 use Rattle.bisection.specs.declared.steps.Found as code-found
 use Rattle.bisection.specs.Search.{sumsOf, Holding, HoldsFound}
 use Rattle.bisection.specs.Solving.{Measurable}
-use Rattle.dispatching.specs.declared.reply.Reply as code-reply
-use Rattle.dispatching.specs.ReplyHeld.{replyHeld}
+use Rattle.solving.specs.declared.Reply as code-reply
+use Rattle.solving.specs.ReplyHeld.{replyHeld}
 
 -- gap and surplus are not negative
 pub record Stateable (t : ℕ) (f : code-found.Found) : Type 0 where

@@ -1,0 +1,54 @@
+// The solution of a problem whose arrays are decoded, as a reply states it, before it is bytes: the search (crate `bisection`), and cost,
+// gap and surplus of what it found.
+ghost use Rattle.bisection.specs.Solving.{Solving};
+ghost use Rattle.solving.specs.Solved.{Stateable, States, Solves};
+use bisection::Allocation;
+use bisection::Found;
+
+// What the reply states, besides the number of units.
+pub struct Reply {
+    pub evaluations: u16,
+    pub cost: u64,
+    pub gap: u64,
+    pub surplus: u64,
+    pub outputs: [u16; 32],
+}
+
+// What the reply states of what the search found, for the net `target` that covers the demand.
+fn stated(target: u64, f: Found) -> Reply
+    requires { ⌜ Stateable target f ⌝ }
+    ensures { λ r. ⌜ States target f r ⌝ }
+{
+    let Found {
+        best,
+        floor,
+        evaluations,
+    } = f;
+    let Allocation { outputs, cost, net } = best;
+    Reply {
+        evaluations,
+        cost,
+        gap: bisection::distance(cost, floor),
+        surplus: net - target,
+        outputs,
+    }
+}
+
+// The solution of a problem that step 1 accepts; `first` are its greatest outputs.
+pub fn solve(
+    coefficients: &[u64; 160],
+    ends: &[u16; 384],
+    ranges: &[u8; 64],
+    n: usize,
+    target: u64,
+    first: Allocation,
+) -> Reply
+    requires { ⌜ Solving (now coefficients) (now ends) (now ranges) n target first ⌝ }
+    ensures { λ r. ⌜ Solves (now (coefficients .entry)) (now (ends .entry)) (now (ranges .entry)) n target first r ⌝ }
+{
+    let mut trace = [0i64; 0];
+    stated(
+        target,
+        bisection::search(coefficients, ends, ranges, n, target, first, &mut trace),
+    )
+}
