@@ -227,8 +227,8 @@ enum shahfureel_refusal {
     SHAHFUREEL_CONTENTS_INVALID = 6,         /* offsets, lengths or the file's end do not fit: cut, or its room passed? */
     SHAHFUREEL_ZONE_COUNT_INVALID = 7,       /* more than 4 zones, or not as many as the body or row has (unused are 0) */
     SHAHFUREEL_COEFFICIENT_OUT_OF_RANGE = 8, /* c0, c1, c2 or b of a unit is above its limit */
-    SHAHFUREEL_LIMITS_INVALID = 9,           /* 1 <= least, then zone edges, then greatest <= 10,000: strictly rising, but a zone may
-                                              * start where the one before ends */
+    SHAHFUREEL_LIMITS_INVALID = 9,           /* 1 <= least, then zone edges, then greatest <= 10,000: strictly rising, but a zone
+                                                may start where the one before ends */
     SHAHFUREEL_RAMP_OR_MARK_OUT_OF_RANGE = 10, /* previous, up or down above 10,000, or a mark that is not 0 or 1 */
     SHAHFUREEL_NO_ALLOCATION = 11,           /* no permitted outputs cover the demand after losses: see above */
     SHAHFUREEL_ROWS_INVALID = 12,            /* rows_length is 0, above 608, or not 19 to a unit: does it count numbers? */
