@@ -1,30 +1,28 @@
--- What the loop over the bodies keeps: those passed are accepted, and their units are held unless one has no permitted output. And what decoding gives at each way out of it.
+-- What the loop over the bodies keeps: those passed are accepted, and their units are written. And what decoding gives at each way out of it.
 use mathlib.Core.Path.{_≡_, refl, sym, ap, _∙_}
-use mathlib.Core.Bool.{Bool, true, false, true≢false}
+use mathlib.Core.Bool.{Bool, true, false}
 use mathlib.Core.List.{List, [], _∷_, map}
 use Prim.Native.Nat.{ℕ, zero, suc, _+_, _*_, _≤_, _<_}
-use native.Mathlib.Decide.{ℕ-discrete}
 use native.Mathlib.Omega.{arith}
-use lib.Dec.{ltb}
 use lib.ListN.{length, getD, length-map}
-use Rattle.rules.specs.Lists.{each, all}
+use Rattle.rules.specs.Lists.{each}
 use Rattle.rules.specs.Unit.{Unit}
 use Rattle.rules.specs.Layout.{count, demand, unitAt, caseOf}
 use Rattle.rules.specs.Refusal.{inOrder, headVerdict, contentsVerdict, fileVerdict}
-use Rattle.rules.specs.Problem.{Offer, offer, problemOf, problemIn}
-use Rattle.rules.specs.Bisection.{solvable}
+use Rattle.rules.specs.Problem.{offer, problemOf, problemIn}
 use Rattle.rules.specs.Calls.{caseVerdict}
 use Rattle.rules.specs.declared.Refusal.{Refusal}
 use Rattle.rules.specs.declared.Refusal.the-variants.{NoAllocation}
 use Rattle.rules.specs.declared.Verdict.{Verdict}
 use Rattle.rules.specs.declared.Verdict.the-variants.{Accepted, Refused}
-use Rattle.rules.proofs.Lists.{length-each, getD-each, every-at, all-every}
+use Rattle.rules.proofs.Lists.{length-each, getD-each}
 use Rattle.rules.proofs.Each.{Checked, checked-starts, checked-ends, checked-refused, checked-more}
 use Rattle.rules.proofs.Encoding.SoundFile.{sound-head}
 use Rattle.casefile.proofs.Body.{verdictAt}
 use Rattle.casefile.proofs.File.{file-head, file-contents, file-bodies}
-use Rattle.site.specs.Site.{HoldsOffer, noOffer, Site}
-use Rattle.site.specs.Writing.{UnitWritten, BodiesNamed}
+use Rattle.site.specs.Site.{noOffer, Site}
+use Rattle.site.specs.Writing.{BodiesNamed}
+use Rattle.site.proofs.UnitsWritten.{UnitsWritten, Offering, units-start, problem-held, problem-unserved}
 
 -- ---- refusals of the file, and of a unit without a permitted output
 
@@ -48,73 +46,29 @@ module _ (file : List ℕ) where
   mapped f (x ∷ xs) zero d e h = refl
   mapped f (x ∷ xs) (suc n) d e h = mapped f xs n d e (omega arith)
 
-  offer-at : (j : ℕ) → j < count file → getD (problemIn file .offers) j noOffer ≡ offer (unitAt file j)
+  offering : {n : ℕ} → n ≡ count file → Offering (unitAt file) n (problemIn file)
   unfolding problemOf caseOf units
-  offer-at j h =
-      mapped offer units j (unitAt file j) noOffer (omega (arith, length-each (count file) (unitAt file)))
-      ∙ ap offer (getD-each (count file) (unitAt file) j (unitAt file j) h)
-
-  offer-count : length (problemIn file .offers) ≡ count file
-  unfolding problemOf caseOf units
-  offer-count = length-map units offer ∙ length-each (count file) (unitAt file)
-
-  abbrev some : Offer → Bool
-  some o = ltb 0 (length (o .outputs))
-
-  unit-refused : (j : ℕ) → j < count file → offer (unitAt file j) .outputs ≡ [] → fileVerdict file ≡ Accepted → caseVerdict file ≡ Refused NoAllocation
-  unfolding caseVerdict solvable
-  unit-refused j h e accepted = rw (accepted, by (all some (problemIn file .offers)) refl)
-    where
-      by : (t : Bool) → all some (problemIn file .offers) ≡ t → all some (problemIn file .offers) ≡ false
-      by false p = p
-      by true p =
-          let held = every-at (λ o. some o ≡ true) (problemIn file .offers) j noOffer (all-every some (problemIn file .offers) .0 p) (omega (arith, offer-count)) in
-          absurd (true≢false (sym held ∙ rw (offer-at j h, e)))
+  offering e =
+      record {
+        count = length-map units offer ∙ length-each (count file) (unitAt file) ∙ sym e;
+        at = λ j h.
+            mapped offer units j (unitAt file j) noOffer (omega (arith, e, length-each (count file) (unitAt file)))
+            ∙ ap offer (getD-each (count file) (unitAt file) j (unitAt file j) (omega (arith, e)));
+      }
 
 -- ---- the loop over the bodies
 
--- a unit of the first n has no permitted output
-pub record Unserved (file : List ℕ) (n : ℕ) : Type 0 where
-  pub unit : ℕ
-  pub below : unit < n
-  pub none : offer (unitAt file unit) .outputs ≡ []
-
--- bodies 0 .. i − 1 are accepted; their units are held, or `permitted` is false and one has no permitted output
+-- bodies 0 .. i − 1 are accepted, and their units are written
 pub record Decoding (file : List ℕ) (n : ℕ) (coefficients ends ranges : List ℕ) (permitted : Bool) (i : ℕ) : Type 0 where
   pub checked : Checked n (verdictAt file) i
-  pub held : permitted ≡ true → (j : ℕ) → j < i → HoldsOffer coefficients ends ranges j (offer (unitAt file j))
-  pub unserved : permitted ≡ false → Unserved file n
+  pub written : UnitsWritten (unitAt file) coefficients ends ranges permitted i
 
 pub decoding-starts : (file : List ℕ) (n : ℕ) (coefficients ends ranges : List ℕ) → Decoding file n coefficients ends ranges true 0
-decoding-starts file n coefficients ends ranges =
-    record {
-      checked = checked-starts n (verdictAt file);
-      held = λ _ j h. absurd (omega arith);
-      unserved = λ e. absurd (true≢false e);
-    }
+decoding-starts file n coefficients ends ranges = record { checked = checked-starts n (verdictAt file); written = units-start }
 
 module _ {file : List ℕ} {n : ℕ} {coefficients ends ranges : List ℕ} {permitted : Bool} {i : ℕ} (d : Decoding file n coefficients ends ranges permitted i) where
-  module _ (h : i < n) (accepted : verdictAt file i ≡ Accepted) where
-    checked′ : Checked n (verdictAt file) (i + 1)
-    checked′ = checked-more n (verdictAt file) i (d .checked) h accepted
-
-    -- unit i is written
-    module _ {u : Unit} {some permitted′ : Bool} {coefficients′ ends′ ranges′ : List ℕ} (x : u ≡ unitAt file i) (w : UnitWritten u i coefficients ends ranges coefficients′ ends′ ranges′ some) where
-      pub decoding-more : some ≡ true → permitted′ ≡ permitted → Decoding file n coefficients′ ends′ ranges′ permitted′ (i + 1)
-      decoding-more s q =
-          record { checked = checked′; held = λ e j l. at (sym q ∙ e) j l (ℕ-discrete j i); unserved = λ e. d .unserved (sym q ∙ e) }
-        where
-          at : permitted ≡ true → (j : ℕ) → j < i + 1 → Dec (j ≡ i) → HoldsOffer coefficients′ ends′ ranges′ j (offer (unitAt file j))
-          at e j l (yes k) = rw (k, ← x) (w .holds s)
-          at e j l (no k) = w .others j k (offer (unitAt file j)) (d .held e j (omega arith))
-
-      pub decoding-unserved : some ≡ false → permitted′ ≡ false → Decoding file n coefficients′ ends′ ranges′ permitted′ (i + 1)
-      decoding-unserved s q =
-          record {
-            checked = checked′;
-            held = λ e. absurd (true≢false (sym e ∙ q));
-            unserved = λ _. record { unit = i; below = h; none = rw (← x) (w .none s) };
-          }
+  pub decoding-more : {permitted′ : Bool} {coefficients′ ends′ ranges′ : List ℕ} → i < n → verdictAt file i ≡ Accepted → UnitsWritten (unitAt file) coefficients′ ends′ ranges′ permitted′ (i + 1) → Decoding file n coefficients′ ends′ ranges′ permitted′ (i + 1)
+  decoding-more h accepted w = record { checked = checked-more n (verdictAt file) i (d .checked) h accepted; written = w }
 
   module _ {e : ℕ} (b : BodiesNamed file e n) where
     verdict : {v : Verdict} → inOrder (each n (verdictAt file)) ≡ v → fileVerdict file ≡ v
@@ -128,10 +82,13 @@ module _ {file : List ℕ} {n : ℕ} {coefficients ends ranges : List ℕ} {perm
       file-accepted : fileVerdict file ≡ Accepted
       file-accepted = verdict (checked-ends n (verdictAt file) i (d .checked) all)
 
+      written : UnitsWritten (unitAt file) coefficients ends ranges permitted n
+      written = let last : n ≡ i = omega (arith, all, d .checked .within) in rw last (d .written)
+
       pub decoding-ends-unserved : permitted ≡ false → caseVerdict file ≡ Refused NoAllocation
+      unfolding caseVerdict
       decoding-ends-unserved e =
-          let u = d .unserved e in
-          unit-refused file (u .unit) (omega (arith, u .below, b .units)) (u .none) file-accepted
+          rw (file-accepted, problem-unserved (offering file (b .units)) (written .unserved e))
 
       pub decoding-ends : permitted ≡ true → Site file coefficients ends ranges n (100000000 * demand file)
       unfolding problemOf caseOf
@@ -140,11 +97,5 @@ module _ {file : List ℕ} {n : ℕ} {coefficients ends ranges : List ℕ} {perm
           record {
             accepted = file-accepted;
             demanded = refl;
-            holds =
-                record {
-                  count = offer-count file ∙ sym (b .units);
-                  few = omega (arith, b .units, head .count-greatest);
-                  demand = head .demand-greatest;
-                  offers = λ j h. rw (offer-at file j (omega (arith, b .units))) (d .held e j (omega arith));
-                };
+            holds = problem-held (offering file (b .units)) (rw e at written) (omega (arith, b .units, head .count-greatest)) (head .demand-greatest);
           }

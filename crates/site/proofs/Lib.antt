@@ -1,3 +1,4 @@
 pub mod CoefficientsWritten
 pub mod HoldsOffer
+pub mod UnitsWritten
 pub mod Decodes

@@ -44,7 +44,7 @@ fn write_range(i: usize, first: usize, last: usize, ranges: &mut [u8])
 }
 
 // Writes unit `i` into the arrays; gives whether it has a permitted output.
-fn write_unit(
+pub fn write_unit(
     u: Unit,
     i: usize,
     coefficients: &mut [u64; 160],

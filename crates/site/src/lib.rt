@@ -7,6 +7,7 @@
 mod decoding;
 
 pub use decoding::decode;
+pub use decoding::write_unit;
 use rules::Refusal;
 
 // What decoding gives besides the arrays: the number of units and the net that covers the demand.

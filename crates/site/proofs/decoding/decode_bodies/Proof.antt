@@ -16,7 +16,8 @@ use Rattle.reading.specs.Required.{BodyFits}
 use Rattle.casefile.specs.Required.{BodyInside}
 use Rattle.casefile.proofs.Contents.{body-inside, body-length}
 use Rattle.casefile.proofs.Body.{verdictAt, body-fits, zone-count-fits}
-use Rattle.site.proofs.Decodes.{Decoding, decoding-starts, decoding-more, decoding-unserved, decoding-refused, decoding-ends-unserved, decoding-ends}
+use Rattle.site.proofs.UnitsWritten.{units-more, units-unserved}
+use Rattle.site.proofs.Decodes.{Decoding, decoding-starts, decoding-more, decoding-refused, decoding-ends-unserved, decoding-ends}
 use Rattle.site.proofs.decoding.decode_bodies.Statement.{statement}
 use Rattle.site.proofs.decoding.decode_bodies.Tie as tie
 
@@ -103,9 +104,10 @@ loop-again c =
     let checked = passed .before .before in
     let inv = body checked .before .before .loop .inv in
     let unit = checked .before .read-body .ensures ∙ ap₂ unitOfBody (entry (body checked .before) .pre .edition) (body checked .body-of .ensures) in
+    let more = decoding-more inv (omega arith) (told checked ∙ accepted passed) in
     ⊎-elim
-    (λ w. decoding-unserved inv (omega arith) (told checked ∙ accepted passed) unit (written .write-unit .ensures) (not-true _ (w .0 .taken)) (w .1))
-    (λ w. decoding-more inv (omega arith) (told checked ∙ accepted passed) unit (written .write-unit .ensures) (not-false _ (w .0 .left)) (w .1))
+    (λ w. more (units-unserved (inv .written) unit (written .write-unit .ensures) (not-true _ (w .0 .taken)) (w .1)))
+    (λ w. more (units-more (inv .written) unit (written .write-unit .ensures) (not-false _ (w .0 .left)) (w .1)))
     (c .if2 .came)
 
 returns-3 : tie.Need-returns-3 Inv-loop μ-loop
