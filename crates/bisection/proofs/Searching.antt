@@ -11,14 +11,15 @@ use lib.IntN.{ℤ}
 use lib.ListN.{length}
 use lib.Signed.{leZ}
 use borrow.Author.Tests.{eq-eqb, ne-eqb, le-leb, lt-leb}
+use Rattle.rules.specs.Lists.{True}
 use Rattle.rules.specs.Numbers.{dividedUp}
 use Rattle.rules.specs.Problem.{Problem, unitsOf, totalNet, target}
 use Rattle.rules.specs.Choice.{selected, dualValue, floor}
-use Rattle.evaluation.specs.Totals.{HoldsOutputs, Sized}
+use Rattle.evaluation.specs.Contracts.{HoldsOutputs, Sized}
 use Rattle.bisection.specs.declared.steps.Allocation as code-allocation
 use Rattle.bisection.specs.declared.steps.SearchState as code-state
 use Rattle.rules.specs.Stages.{Stage, atZero, atTop, halving, finished, nextMultiplier, halvingLeft, Standing, bestOf, stageAfter}
-use Rattle.bisection.specs.Search.{sumsOf, Selected, allocated, Selects, recorded, Traces, At, Begun, raisedFloor, onwardOf, HoldsBest, HoldsStanding, Reached, SearchesFrom}
+use Rattle.bisection.specs.Contracts.{sumsOf, Selected, allocated, Selects, recorded, Traces, At, Begun, raisedFloor, onwardOf, HoldsBest, HoldsStanding, Reached, SearchesFrom}
 use Rattle.bisection.proofs.Tracing.{recorded-length, traces-more}
 use Rattle.rules.proofs.Economics.Stages.{advanced-next}
 
@@ -65,7 +66,7 @@ abbrev isFinished : Stage → Type 0
 isFinished atZero = ⊥
 isFinished atTop = ⊥
 isFinished (halving k l) = ⊥
-isFinished finished = Unit {0}
+isFinished finished = True
 
 unfinished : {stage : Stage} → (isFinished stage → ⊥) → stage ≡ finished → ⊥
 unfinished h e = h (subst⁻¹ isFinished e tt)

@@ -4,11 +4,9 @@ use mathlib.Core.List.{List}
 use Rattle.rules.specs.Problem.{problemIn}
 use Rattle.rules.specs.Bisection.{greatestOutputs}
 use Rattle.rules.proofs.Demand3.{case-accepted}
-use Rattle.evaluation.specs.Totals.{HoldsOutputs}
-use Rattle.evaluation.specs.Step1.{First}
+use Rattle.evaluation.specs.Contracts.{HoldsOutputs, First}
 use Rattle.bisection.specs.declared.steps.Allocation as code-allocation
-use Rattle.bisection.specs.Search.{Holding}
-use Rattle.bisection.specs.Solving.{Solving}
+use Rattle.bisection.specs.Contracts.{Holding, Solving}
 
 module _ {file coefficients ends ranges outputs : List ℕ} {n t c w : ℕ} (f : First file coefficients ends ranges outputs n t c w) where
   pub holding : Holding coefficients ends ranges n t (problemIn file)

@@ -12,7 +12,7 @@ use borrow.Author.Tests.{lt-ltb}
 use Rattle.rules.specs.Problem.{Problem}
 use Rattle.rules.specs.Choice.{dualValue}
 use Rattle.rules.proofs.Verdicts.{either-way}
-use Rattle.bisection.specs.Search.{recorded, Traces}
+use Rattle.bisection.specs.Contracts.{recorded, Traces}
 
 pub recorded-length : (trace : List ℤ) (k m : ℕ) (d : ℤ) → length (recorded trace k m d) ≡ length trace
 recorded-length trace k m d =

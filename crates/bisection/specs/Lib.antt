@@ -1,2 +1,1 @@
-pub mod Search
-pub mod Solving
+pub mod Contracts

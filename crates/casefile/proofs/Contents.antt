@@ -18,7 +18,7 @@ use Rattle.rules.specs.declared.Verdict.the-variants.{Accepted}
 use Rattle.rules.proofs.Each.{rest-ends, rest-more}
 use Rattle.rules.proofs.Encoding.Body.{edges-start}
 use Rattle.rules.proofs.Encoding.SoundFile.{SoundContents, sound-contents, body-within}
-use Rattle.casefile.specs.Required.{BodyInside}
+use Rattle.casefile.specs.Contracts.{BodyInside}
 
 -- ---- legal lengths
 

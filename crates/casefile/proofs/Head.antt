@@ -13,7 +13,7 @@ use Rattle.rules.specs.declared.Refusal.the-variants.{FileTooShort, EditionUnkn
 use Rattle.rules.specs.declared.Verdict.the-variants.{Accepted, Refused}
 use Rattle.rules.proofs.Verdicts.{accepts}
 use Rattle.rules.proofs.Encoding.SoundFile.{sound-head}
-use Rattle.casefile.specs.Required.{HeadRead}
+use Rattle.casefile.specs.Contracts.{HeadRead}
 
 -- one of two tests holds
 pub or-true : (a b : Bool) → (a ≡ false → b ≡ true) → (a || b) ≡ true

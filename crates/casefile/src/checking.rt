@@ -7,7 +7,7 @@ ghost use lib.ListN.{length};
 ghost use Rattle.rules.specs.Lists.{each, all};
 ghost use Rattle.rules.specs.Layout.{edition, body};
 ghost use Rattle.rules.specs.Refusal.{inOrder, editionVerdict, headVerdict, start, legalSize, entryFits, contentsVerdict, bodyVerdict, fileVerdict};
-ghost use Rattle.casefile.specs.Required.{HeadRead, BodyInside, FitTold};
+ghost use Rattle.casefile.specs.Contracts.{HeadRead, BodyInside, FitTold};
 use reading::edges_start;
 use reading::read_body;
 use rules::Refusal;

@@ -4,9 +4,9 @@ use mathlib.Core.Path.{_≡_, sym, _∙_}
 use mathlib.Core.Bool.{Bool, true, false}
 use lib.IntN.{ℤ}
 use native.Mathlib.Omega.{arith}
-use Rattle.rules.proofs.Economics.Chosen.{Chosen}
+use Rattle.rules.specs.Offers.{Chosen}
 use Rattle.choice.specs.declared.Choice.{Choice}
-use Rattle.choice.specs.Choosing.{Gives}
+use Rattle.choice.specs.Contracts.{Gives}
 
 -- what is said to tie is not said not to
 pub said : {b : Bool} {A : Type 0} → b ≡ true → b ≡ false → A

@@ -11,13 +11,14 @@ use lib.IntN.{ℤ}
 use lib.ListN.{getD}
 use lib.Signed.{_<ℤ_, ≤ℤ-refl}
 use Rattle.rules.specs.Choice.{better, earlier}
-use Rattle.fields.proofs.Integers.{up, dn}
-use Rattle.rules.proofs.Economics.Chosen.{Chosen, alike, agreed, single, lower-better, upper-better, both-tie}
+use Rattle.fields.specs.Integers.{positivePart, negativePart}
+use Rattle.rules.specs.Offers.{Chosen}
+use Rattle.rules.proofs.Economics.Chosen.{alike, agreed, single, lower-better, upper-better, both-tie}
 use Rattle.regions.specs.Regions.{low, high}
 use Rattle.site.specs.Site.{Within, Regions}
 use Rattle.curve.specs.declared.Curve as code
 use Rattle.curve.specs.Curve.{height, pricedAt}
-use Rattle.choice.specs.Choosing.{Reaching, Running, Beside, Choosable}
+use Rattle.choice.specs.Contracts.{Reaching, Running, Beside, Choosable}
 use Rattle.choice.proofs.Valley.{last-before, first-behind, compared, upper-only, both}
 use Rattle.curve.proofs.Heights.{valley, flat, priced-running}
 
@@ -55,7 +56,7 @@ module _ {ends : List ℕ} {begin end : ℕ} (r : Regions ends begin end) where
   pub highest : Within ends begin end (high ends end)
   highest = record { region = end; from = r .some; to = omega arith; inside = record { from = r .ascending .order end (r .some) (omega arith); to = omega arith } }
 
-  -- up to a region or from the next one on
+  -- positivePart to a region or from the next one on
   pub parted : (k : ℕ) → begin ≤ k → k < end → (p : ℕ) → Within ends begin end p → (p ≤ high ends k) ⊎ (low ends (k + 1) ≤ p)
   parted k f h p w = by (decLe (w .region) k)
     where
@@ -139,16 +140,16 @@ module _ {ends : List ℕ} {begin end : ℕ} {c : code.Curve} (u : Running ends 
   abbrev g : Regions ends begin end
   g = u .regions
 
-  pub past-highest : 2 * (c .square * high ends end) + up (c .linear) < c .square + dn (c .linear) → Chosen (height c) (Within ends begin end) (high ends end) (high ends end)
+  pub past-highest : 2 * (c .square * high ends end) + positivePart (c .linear) < c .square + negativePart (c .linear) → Chosen (height c) (Within ends begin end) (high ends end) (high ends end)
   past-highest h =
       last-before (valley c {from = low ends begin} {to = high ends end} {v = high ends end + 1} (λ q _ _ l. omega (arith, mul-le-mul-left (c .square) l)) (λ l. absurd (omega arith))) (from-lowest g) (to-highest g) (high ends end) (highest g) (omega arith) (to-highest g)
 
-  pub before-lowest : c .square + dn (c .linear) < 2 * (c .square * low ends begin) + up (c .linear) → Chosen (height c) (Within ends begin end) (low ends begin) (low ends begin)
+  pub before-lowest : c .square + negativePart (c .linear) < 2 * (c .square * low ends begin) + positivePart (c .linear) → Chosen (height c) (Within ends begin end) (low ends begin) (low ends begin)
   before-lowest h =
       first-behind (valley c {from = low ends begin} {to = high ends end} {v = low ends begin} (λ q f l _. absurd (omega arith)) (λ _. omega arith)) (from-lowest g) (to-highest g) (low ends begin) (lowest g) (omega arith) (from-lowest g)
 
   -- all of them, where the curve is flat
-  pub all-tied : c .square ≡ 0 → up (c .linear) ≡ dn (c .linear) → Chosen (height c) (Within ends begin end) (high ends end) (low ends begin)
+  pub all-tied : c .square ≡ 0 → positivePart (c .linear) ≡ negativePart (c .linear) → Chosen (height c) (Within ends begin end) (high ends end) (low ends begin)
   all-tied e f =
       record {
         candidate = highest g;

@@ -8,7 +8,8 @@ use lib.Signed.{quotZ, remZ}
 use mir.Syntax.{w64}
 use mir.Val.{toZ, ofZ}
 use mir.Facts.{toZ-pos}
-use Rattle.fields.proofs.Integers.{Is, up, dn, is-pos, is-same, up-is, dn-is, is-quot, cast, same}
+use Rattle.fields.specs.Integers.{Is, positivePart, negativePart}
+use Rattle.fields.proofs.Integers.{is-pos, is-same, up-is, dn-is, is-quot, cast, same}
 
 pub is-quotient : {z : ℤ} {a b : ℕ} → Is z a b → b ≤ a → (k : ℕ) → k < 9223372036854775808 → Is (quotZ z (toZ w64 k)) ((a - b) / k) 0
 is-quotient {z} {a} {b} p h k l =
@@ -17,8 +18,8 @@ is-quotient {z} {a} {b} p h k l =
     let q : Is (quotZ z (toZ w64 k)) ((a - b) / k) ((b - a) / k) = rw (toZ-pos w64 l) (is-quot p k) in
     rw zero at q
 
-remainder : (z : ℤ) (k : ℕ) → dn z ≡ 0 → remZ z (pos k) ≡ pos (up z % k)
-unfolding up dn
+remainder : (z : ℤ) (k : ℕ) → negativePart z ≡ 0 → remZ z (pos k) ≡ pos (positivePart z % k)
+unfolding positivePart negativePart
 remainder (pos n) k e = refl
 remainder (negsuc n) k e = absurd (omega arith)
 

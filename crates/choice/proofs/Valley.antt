@@ -7,7 +7,8 @@ use native.Mathlib.Omega.{arith}
 use lib.IntN.{ℤ}
 use lib.Signed.{_<ℤ_}
 use Rattle.rules.specs.Choice.{better, earlier}
-use Rattle.rules.proofs.Economics.Chosen.{Chosen, alike, only, either, upper-better, both-tie}
+use Rattle.rules.specs.Offers.{Chosen}
+use Rattle.rules.proofs.Economics.Chosen.{alike, only, either, upper-better, both-tie}
 use Rattle.curve.specs.Curve.{Valley}
 
 module _ {f : ℕ → ℤ} {from to v : ℕ} (w : Valley f from to v) {C : ℕ → Type 0} (above : (p : ℕ) → C p → from ≤ p) (below : (p : ℕ) → C p → p ≤ to) where

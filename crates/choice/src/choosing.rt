@@ -7,7 +7,7 @@ ghost use Rattle.rules.specs.Choice.{better as later·of, earlier as earlier·o
 ghost use Rattle.regions.specs.Regions.{high};
 ghost use Rattle.site.specs.Site.{Within};
 ghost use Rattle.curve.specs.Curve.{height, pricedAt, InRange};
-ghost use Rattle.choice.specs.Choosing.{Places, Reaching, Running, Beside, Choosable, Gives};
+ghost use Rattle.choice.specs.Contracts.{Places, Reaching, Running, Beside, Choosable, Gives};
 use crate::Choice;
 use curve::Curve;
 use curve::priced_cost;

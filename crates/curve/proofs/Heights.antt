@@ -12,8 +12,9 @@ use mir.Syntax.{w64}
 use mir.Val.{SFits, toZ, ofZ}
 use Rattle.rules.specs.Unit.{Unit, cost, linearFactor, net}
 use Rattle.rules.specs.Choice.{pricedCost}
-use Rattle.fields.proofs.Integers.{Is, up, dn, is-pos, is-sub, is-minus, cast, fits, kept, same, at-most, under, up-is, dn-is}
-use Rattle.rules.proofs.Sound.{Sound}
+use Rattle.fields.specs.Integers.{Is, positivePart, negativePart}
+use Rattle.fields.proofs.Integers.{is-pos, is-sub, is-minus, cast, fits, kept, same, at-most, under, up-is, dn-is}
+use Rattle.rules.specs.Sound.{Sound}
 use Rattle.rules.proofs.Economics.Quantities.{factor, cost-running, cost-standing, net-whole, priced-is}
 use Rattle.site.specs.Site.{factorAt, c0At, c1At, c2At, bAt, Coefficients}
 use Rattle.curve.specs.declared.Curve as code
@@ -121,9 +122,9 @@ module _ {coefficients : List ℕ} {i m : ℕ} (h : AtMultiplier coefficients i 
 
 -- ---- the curve
 
-pub height-is : (c : code.Curve) (p : ℕ) → Is (height c p) (c .square * (p * p) + up (c .linear) * p + c .constant) (dn (c .linear) * p)
+pub height-is : (c : code.Curve) (p : ℕ) → Is (height c p) (c .square * (p * p) + positivePart (c .linear) * p + c .constant) (negativePart (c .linear) * p)
 unfolding height
-height-is c p = is-sub (c .square * (p * p) + up (c .linear) * p + c .constant) (dn (c .linear) * p)
+height-is c p = is-sub (c .square * (p * p) + positivePart (c .linear) * p + c .constant) (negativePart (c .linear) * p)
 
 pub priced-running : (c : code.Curve) (p : ℕ) → 1 ≤ p → pricedAt c p ≡ height c p
 unfolding pricedAt
@@ -136,7 +137,7 @@ priced-standing c = refl
 -- at a running output it is the unit's priced cost
 running-curve : {m : ℕ} {u : Unit} {c : code.Curve} → Sound u → IsCurve m u c → (p : ℕ) → 1 ≤ p → p ≤ 10000 → height c p ≡ pricedCost m u p
 running-curve {m} {u} {c} s k p l h =
-    let linear : up (c .linear) * p + linearFactor u * m * p ≡ 100000 * u .c1 * p + dn (c .linear) * p = omega (arith, ap (λ (n : ℕ). n * p) (k .linear .is)) in
+    let linear : positivePart (c .linear) * p + linearFactor u * m * p ≡ 100000 * u .c1 * p + negativePart (c .linear) * p = omega (arith, ap (λ (n : ℕ). n * p) (k .linear .is)) in
     let square : c .square * (p * p) ≡ (100000 * u .c2 + m * u .b) * (p * p) = ap (λ (n : ℕ). n * (p * p)) (k .square) in
     same (height-is c p) (priced-is m u p) (omega (arith, cost-running u p l, ap (λ (n : ℕ). m * n) (net-whole s h), linear, square, k .constant))
 
@@ -149,17 +150,17 @@ priced-curve {m} {u} {c} s k p h = by (ℕ-discrete p 0)
         rw e (priced-standing c ∙ same (is-pos 0) (priced-is m u 0) (omega (arith, cost-standing u, ap (λ (n : ℕ). m * n) none)))
     by (no n) = priced-running c p (omega arith) ∙ running-curve s k p (omega arith) h
 
--- ---- its steps: it does not rise up to v, if the step into v does not, and rises from v, if the step out of v does
+-- ---- its steps: it does not rise positivePart to v, if the step into v does not, and rises from v, if the step out of v does
 
 module _ (c : code.Curve) where
   abbrev a : ℕ
   a = c .square
 
   abbrev s : ℕ
-  s = up (c .linear)
+  s = positivePart (c .linear)
 
   abbrev t : ℕ
-  t = dn (c .linear)
+  t = negativePart (c .linear)
 
   squared : (j : ℕ) → 0 < j → a * j ≤ a * (j * j)
   squared j h = omega (arith, mul-le-mul-left (a * j) h)

@@ -7,13 +7,13 @@ use lib.Dec.{eqb}
 use lib.IntN.{ℤ, pos, subℕ}
 use lib.Signed.{_<ℤ_}
 use Rattle.rules.specs.Unit.{Unit, linearFactor}
-use Rattle.fields.proofs.Integers.{up, dn, Is}
+use Rattle.fields.specs.Integers.{positivePart, negativePart, Is}
 use Rattle.site.specs.Site.{Coefficients}
 use Rattle.curve.specs.declared.Curve.{Curve}
 
 -- the curve's value at p
 unfoldable pub height : Curve → ℕ → ℤ
-height c p = subℕ (c .square * (p * p) + up (c .linear) * p + c .constant) (dn (c .linear) * p)
+height c p = subℕ (c .square * (p * p) + positivePart (c .linear) * p + c .constant) (negativePart (c .linear) * p)
 
 -- a unit's priced cost by its curve: the curve's value at a running output, nothing where it stands (rule 6.2)
 unfoldable pub pricedAt : Curve → ℕ → ℤ
@@ -28,8 +28,8 @@ pub record IsCurve (m : ℕ) (u : Unit) (c : Curve) : Type 0 where
 -- its numbers in range
 pub record InRange (c : Curve) : Type 0 where
   pub square : c .square ≤ 1000000000
-  pub above : up (c .linear) ≤ 10000000000000
-  pub below : dn (c .linear) ≤ 10000000000000
+  pub above : positivePart (c .linear) ≤ 10000000000000
+  pub below : negativePart (c .linear) ≤ 10000000000000
   pub constant : c .constant ≤ 1000000000000000
 
 -- on from..to the function f falls strictly before v and rises strictly from v; of the step into v nothing is said

@@ -17,11 +17,11 @@ use Rattle.rules.specs.declared.Refusal.the-variants.{BufferTooShort}
 use Rattle.rules.specs.declared.Verdict.{Verdict}
 use Rattle.rules.specs.declared.Dispatched.{Dispatched}
 use Rattle.rules.proofs.Demand3.{demand3}
-use Rattle.evaluation.specs.Step1.{First}
+use Rattle.evaluation.specs.Contracts.{First}
 use Rattle.bisection.proofs.Starting.{holding, greatest-held}
 use Rattle.solving.specs.declared.Reply as code-reply
 use Rattle.solving.specs.ReplyHeld.{replyHeld}
-use Rattle.solving.specs.Solved.{Solves}
+use Rattle.solving.specs.Contracts.{Solves}
 
 -- the solution of what step 1 found is the file's
 pub solution : {file coefficients ends ranges outputs : List ℕ} {n t c w : ℕ} → First file coefficients ends ranges outputs n t c w → {r : code-reply.Reply} → Solves coefficients ends ranges n t (record { outputs = outputs; cost = c; net = w }) r → replyHeld n r ≡ solve (problemIn file)

@@ -12,7 +12,7 @@ use Rattle.rules.specs.Problem.{totalCost, totalNet, Offer, Problem, unitsOf}
 use Rattle.rules.proofs.Economics.Quantities.{cost-range, net-range}
 use Rattle.site.specs.Site.{Coefficients, noOffer, HoldsOffer, HoldsProblem}
 use Rattle.evaluation.specs.declared.Sums as code
-use Rattle.evaluation.specs.Totals.{Held, HoldsOutputs, HoldsEach, Sized, Allocates}
+use Rattle.evaluation.specs.Contracts.{Held, HoldsOutputs, HoldsEach, Sized, Allocates}
 
 module _ (pick : Offer → ℕ) where
   -- of a problem: the first i units have their outputs

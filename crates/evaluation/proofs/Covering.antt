@@ -18,12 +18,11 @@ use Rattle.rules.specs.declared.Refusal.the-variants.{NoAllocation, MultiplierO
 use Rattle.rules.specs.declared.Verdict.the-variants.{Refused}
 use Rattle.rules.specs.declared.Priced.{Priced}
 use Rattle.rules.proofs.Lists.{every-from, all-every}
-use Rattle.fields.proofs.Integers.{Is}
+use Rattle.fields.specs.Integers.{Is}
 use Rattle.rules.proofs.Economics.Chosen.{some-among}
 use Rattle.site.specs.Site.{noOffer, HoldsOffer, HoldsProblem, Site}
 use Rattle.evaluation.specs.declared.Sums as code
-use Rattle.evaluation.specs.Totals.{Allocates, Dualable}
-use Rattle.evaluation.specs.Step1.{Steps, First, FindsFirst}
+use Rattle.evaluation.specs.Contracts.{Allocates, Dualable, Steps, First, FindsFirst}
 use Rattle.evaluation.specs.declared.FirstBest.{FirstBest}
 use Rattle.choice.proofs.Regions.{lowest}
 use Rattle.evaluation.proofs.Offers.{dual-held}

@@ -5,20 +5,22 @@ use mathlib.Core.Logic.{inl, inr}
 use Prim.Native.Nat.{ℕ, _+_, _*_, _≤_, _<_}
 use native.Mathlib.Omega.{arith}
 use lib.IntN.{ℤ}
-use Rattle.rules.specs.Lists.{greatest}
+use Rattle.rules.specs.Lists.{greatest, Every}
 use Rattle.rules.specs.Problem.{Offer, Problem, target}
 use Rattle.rules.specs.Choice.{pricedCost, choice, leastTied, choices, dualValue}
-use Rattle.rules.proofs.Lists.{Every, every-from}
-use Rattle.fields.proofs.Integers.{Is, same}
-use Rattle.rules.proofs.Economics.Chosen.{Chosen, Among, some-among, unique, alike, agreed, scanned}
-use Rattle.rules.proofs.Economics.Allocations.{Proper, Available, dual-is, at-most-greatest}
+use Rattle.rules.proofs.Lists.{every-from}
+use Rattle.fields.specs.Integers.{Is}
+use Rattle.fields.proofs.Integers.{same}
+use Rattle.rules.specs.Offers.{Chosen, Among, Proper, Available}
+use Rattle.rules.proofs.Economics.Chosen.{some-among, unique, alike, agreed, scanned}
+use Rattle.rules.proofs.Economics.Allocations.{dual-is, at-most-greatest}
 use Rattle.regions.specs.Regions.{low, high}
 use Rattle.site.specs.Site.{first, last, Within, noOffer, HoldsOffer, HoldsProblem}
 use Rattle.curve.specs.declared.Curve as code
 use Rattle.curve.specs.Curve.{pricedAt, IsCurve, InRange}
-use Rattle.choice.specs.Choosing.{Choosable}
+use Rattle.choice.specs.Contracts.{Choosable}
 use Rattle.evaluation.specs.declared.Sums as code-sums
-use Rattle.evaluation.specs.Totals.{Allocates}
+use Rattle.evaluation.specs.Contracts.{Allocates}
 use Rattle.curve.proofs.Heights.{priced-curve}
 use Rattle.choice.proofs.Regions.{small, to-highest, lowest, highest}
 

@@ -1,6 +1,5 @@
 // From a case file's bytes to step 1.
-ghost use Rattle.evaluation.specs.Totals.{Held};
-ghost use Rattle.evaluation.specs.Step1.{Steps, FindsFirst};
+ghost use Rattle.evaluation.specs.Contracts.{Held, Steps, FindsFirst};
 use crate::FirstBest;
 use crate::Sums;
 use crate::totals::greatest_outputs;

@@ -10,7 +10,8 @@ use lib.ListN.{length, take, drop, length-drop}
 use lib.Seq.{length-take-le}
 use borrow.Author.Tests.{lt-ltb, le-ltb}
 use Rattle.fields.specs.Field.{Bytes, numberAfter, field, written, signed, unsigned, signedField}
-use Rattle.fields.proofs.Integers.{up, dn, is-negsuc, is-sub, same}
+use Rattle.fields.specs.Integers.{positivePart, negativePart}
+use Rattle.fields.proofs.Integers.{is-negsuc, is-sub, same}
 use Rattle.fields.proofs.Width.{bytes-part, read-written, written-read}
 
 -- the lower half stand for themselves, the upper half for what is less by 256 ^ w
@@ -35,19 +36,19 @@ unsigned-signed w n h = by (decLt (2 * n) (256 ^ w))
     by (no k) = rw (signed-upper w n (omega arith), upper (256 ^ w - suc n) (omega arith)) (omega arith)
 
 -- and a signed number of w bytes is what its number stands for
-pub signed-unsigned : (w : ℕ) (z : ℤ) → 2 * up z < 256 ^ w → 2 * dn z ≤ 256 ^ w → signed w (unsigned w z) ≡ z
-unfolding unsigned up dn
+pub signed-unsigned : (w : ℕ) (z : ℤ) → 2 * positivePart z < 256 ^ w → 2 * negativePart z ≤ 256 ^ w → signed w (unsigned w z) ≡ z
+unfolding unsigned positivePart negativePart
 signed-unsigned w (pos n) h k = signed-lower w n h
 signed-unsigned w (negsuc n) h k =
     signed-upper w (256 ^ w - suc n) (omega arith) ∙ same (is-sub (256 ^ w - suc n) (256 ^ w)) (is-negsuc n) (omega arith)
 
-unsigned-fits : (w : ℕ) (z : ℤ) → 2 * up z < 256 ^ w → 2 * dn z ≤ 256 ^ w → unsigned w z < 256 ^ w
-unfolding unsigned up dn
+unsigned-fits : (w : ℕ) (z : ℤ) → 2 * positivePart z < 256 ^ w → 2 * negativePart z ≤ 256 ^ w → unsigned w z < 256 ^ w
+unfolding unsigned positivePart negativePart
 unsigned-fits w (pos n) h k = omega arith
 unsigned-fits w (negsuc n) h k = omega arith
 
 -- reading gives back what was written
-pub read-written-signed : (s : List ℕ) (at w : ℕ) (z : ℤ) → at + w ≤ length s → 2 * up z < 256 ^ w → 2 * dn z ≤ 256 ^ w → signedField (written s at w (unsigned w z)) at w ≡ z
+pub read-written-signed : (s : List ℕ) (at w : ℕ) (z : ℤ) → at + w ≤ length s → 2 * positivePart z < 256 ^ w → 2 * negativePart z ≤ 256 ^ w → signedField (written s at w (unsigned w z)) at w ≡ z
 read-written-signed s at w z h j k = ap (signed w) (read-written s at w (unsigned w z) h (unsigned-fits w z j k)) ∙ signed-unsigned w z j k
 
 -- bytes spell a number that fits

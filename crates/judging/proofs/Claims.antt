@@ -21,8 +21,8 @@ use Rattle.rules.specs.declared.Refusal.the-variants.{NoAllocation}
 use Rattle.rules.specs.declared.Verdict.{Verdict}
 use Rattle.rules.specs.declared.Verdict.the-variants.{Accepted, Refused}
 use Rattle.rules.specs.declared.Dispatched.{Dispatched}
-use Rattle.rules.proofs.Lists.{Every}
-use Rattle.rules.proofs.Sound.{Sound}
+use Rattle.rules.specs.Lists.{Every}
+use Rattle.rules.specs.Sound.{Sound}
 use Rattle.rules.proofs.Encoding.SoundFile.{units-sound}
 use Rattle.rules.proofs.Economics.Quantities.{natural-up}
 use Rattle.rules.proofs.Economics.Solvable.{case-proper, unsolvable}
@@ -32,7 +32,7 @@ use Rattle.rules.proofs.Demand3.{case-accepted, allocation-length, allocation-s
 use Rattle.rules.proofs.Replied.{few-units, replied}
 use Rattle.judging.specs.declared.Judged.{Judged}
 use Rattle.judging.specs.Judging.{acceptable, multipliers, told, judgeVerdict, judgeEnds, judged}
-use Rattle.judging.specs.Held.{SmallAnswer}
+use Rattle.judging.specs.Contracts.{SmallAnswer}
 use Rattle.judging.specs.Claims.{Told, Judgement, Judges, AcceptsDispatch, NotBelowDispatch, AcceptsExactly, OneBound}
 use Rattle.judging.proofs.Floors.{all-floors}
 use Rattle.judging.proofs.Judgements.{acceptable-is, floors-evaluated, verdict-parts, judged-is}

@@ -18,17 +18,17 @@ use Rattle.rules.specs.Promise.{Permitted, Covering}
 use Rattle.rules.specs.declared.Refusal.{Refusal}
 use Rattle.rules.specs.declared.Refusal.the-variants.{OutputCountInvalid}
 use Rattle.rules.specs.declared.Verdict.the-variants.{Accepted, Refused}
-use Rattle.rules.proofs.Lists.{Every}
+use Rattle.rules.specs.Lists.{Every}
 use Rattle.rules.proofs.Verdicts.{and-true, accepts}
-use Rattle.rules.proofs.Sound.{Sound}
+use Rattle.rules.specs.Sound.{Sound}
 use Rattle.rules.proofs.Encoding.SoundFile.{units-sound}
-use Rattle.rules.proofs.Economics.Allocations.{Given}
+use Rattle.rules.specs.Offers.{Given}
 use Rattle.rules.proofs.Economics.Solvable.{case-proper}
 use Rattle.rules.proofs.Economics.Solution.{same-cost, same-net, same-target, covering-net, permitted-given, given-permitted, greatest-floor}
 use Rattle.rules.proofs.Demand3.{case-accepted}
 use Rattle.judging.specs.declared.Judged.{Judged}
 use Rattle.judging.specs.Judging.{acceptable, multipliers, told, judgeVerdict, judgeEnds, judged}
-use Rattle.judging.specs.Held.{ToldHeld, JudgedOf}
+use Rattle.judging.specs.Contracts.{ToldHeld, JudgedOf}
 use Rattle.judging.proofs.Floors.{all-floors}
 
 -- ---- outputs that are acceptable

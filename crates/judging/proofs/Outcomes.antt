@@ -8,18 +8,17 @@ use lib.ListN.{length, length-map}
 use Rattle.rules.specs.Numbers.{natural}
 use Rattle.rules.specs.Layout.{caseOf}
 use Rattle.rules.specs.Problem.{Problem, offer, problemOf, problemIn, target}
-use Rattle.rules.proofs.Economics.Allocations.{Given}
+use Rattle.rules.specs.Offers.{Given}
 use Rattle.rules.proofs.Economics.Solution.{floor-at-most, greatest-floor-not-negative}
 use Rattle.site.specs.Site.{HoldsProblem, Site}
 use Rattle.evaluation.proofs.Offers.{held-proper}
 use Rattle.bisection.specs.declared.steps.Allocation as code-allocation
 use Rattle.bisection.specs.declared.steps.Found as code-found
-use Rattle.bisection.specs.Search.{Holding, Searches}
-use Rattle.bisection.specs.Solving.{Measurable, Solving}
+use Rattle.bisection.specs.Contracts.{Holding, Searches, Measurable, Solving}
 use Rattle.bisection.proofs.Starting.{holding, greatest-held}
-use Rattle.evaluation.specs.Step1.{First}
+use Rattle.evaluation.specs.Contracts.{First}
 use Rattle.judging.specs.declared.Judged.{Judged}
-use Rattle.judging.specs.Held.{SumHeld, JudgedOf, JudgedHeld}
+use Rattle.judging.specs.Contracts.{SumHeld, JudgedOf, JudgedHeld}
 
 module _ {coefficients ends ranges : List ℕ} {n t : ℕ} {first : code-allocation.Allocation} {ps : List ℕ} where
   pub unpermitted : ((q : Problem) → HoldsProblem coefficients ends ranges n q → Given (q .offers) ps → ⊥) → JudgedHeld coefficients ends ranges n t first ps Judged.NotAccepted

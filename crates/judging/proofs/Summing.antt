@@ -10,12 +10,11 @@ use lib.Seq.{drop-cons}
 use Rattle.rules.specs.Unit.{Unit, cost, net}
 use Rattle.rules.specs.Problem.{totalCost, totalNet, Offer, Problem, unitsOf}
 use Rattle.rules.proofs.Lists.{pairwise-from, pairwise-at}
-use Rattle.rules.proofs.Economics.Chosen.{Among}
-use Rattle.rules.proofs.Economics.Allocations.{Given}
+use Rattle.rules.specs.Offers.{Among, Given}
 use Rattle.rules.proofs.Economics.Quantities.{cost-range, net-range}
 use Rattle.site.specs.Site.{first, last, Within, Coefficients, noOffer, HoldsProblem}
-use Rattle.evaluation.specs.Totals.{Sized}
-use Rattle.judging.specs.Held.{Summable, Summing, SumHeld}
+use Rattle.evaluation.specs.Contracts.{Sized}
+use Rattle.judging.specs.Contracts.{Summable, Summing, SumHeld}
 
 abbrev units : List Offer → List Unit
 units os = map (λ o. o .unit) os

@@ -1,4 +1,4 @@
 pub mod Judging
 pub mod Claims
-pub mod Held
+pub mod Contracts
 pub mod Cases

@@ -1,5 +1,5 @@
 // Choices that cover, lowered: the units one by one, each where all together then still cover (rule 10.4 of docs/SPECIFICATION.md).
-ghost use Rattle.lowering.specs.Lowering.{UnitLowerable, LowersUnit, Lowerable, Lowers};
+ghost use Rattle.lowering.specs.Contracts.{UnitLowerable, LowersUnit, Lowerable, Lowers};
 use evaluation::Sums;
 
 // Lowers unit `i` to its least tied output `l` where all outputs together, of cost and net `s`, then still cover.

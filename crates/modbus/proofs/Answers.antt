@@ -19,7 +19,7 @@ use Rattle.rules.specs.declared.Refusal.the-variants.{BufferTooShort, ReplyMalf
 use Rattle.rules.proofs.Verdicts.{accepts}
 use Rattle.modbus.specs.declared.Viewed.{Viewed}
 use Rattle.modbus.specs.View.{Request, requestOf, units, values, exceptionTo, exceptionAnswer, normalAnswer, registerCount, malformed, answerOf, viewVerdict, viewEnds, ViewResult, viewed, numberOfViewed, lengthsOfViewed, panelViewed}
-use Rattle.modbus.specs.Written.{Written}
+use Rattle.modbus.specs.Contracts.{Written}
 use Rattle.modbus.specs.Registers.{Served}
 
 -- ---- the reply

@@ -1,4 +1,4 @@
 pub mod View
-pub mod Written
+pub mod Contracts
 pub mod Registers
 pub mod Views

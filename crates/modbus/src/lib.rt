@@ -6,7 +6,7 @@ ghost use Prim.Native.Nat.{_+_, _*_, _≤_, _<_};
 ghost use lib.ListN.{length, take, drop};
 ghost use Rattle.rules.specs.Lists.{over};
 ghost use Rattle.modbus.specs.View.{exceptionTo, withTopBit, exceptionAnswer, normalAnswer, malformed, viewed};
-ghost use Rattle.modbus.specs.Written.{Written};
+ghost use Rattle.modbus.specs.Contracts.{Written};
 use rules::Refusal;
 
 // What the view answers: the length of the answer that it wrote.

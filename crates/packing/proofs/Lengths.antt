@@ -16,7 +16,7 @@ use Rattle.rules.proofs.Sound.{sound}
 use Rattle.rules.proofs.Encoding.Rows.{length-rowAt, row-in-row}
 use Rattle.rules.proofs.Encoding.Body.{Packable}
 use Rattle.rules.proofs.Encoding.RoundTrip.{length-file}
-use Rattle.packing.specs.Required.{RowsSound}
+use Rattle.packing.specs.Contracts.{RowsSound}
 
 pub row-zones : (rows : List ℕ) (i : ℕ) → unitInRow rows i .zoneCount ≡ getD rows (19 * i + 10) 0
 unfolding unitOfRow

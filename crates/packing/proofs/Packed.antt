@@ -17,7 +17,7 @@ use Rattle.rules.specs.declared.Verdict.the-variants.{Accepted, Refused}
 use Rattle.rules.specs.declared.Packed.{Packed}
 use Rattle.rules.proofs.Lists.{length-each, each-every}
 use Rattle.rules.proofs.Verdicts.{or-false, in-order-accepted}
-use Rattle.packing.specs.Required.{RowsSound}
+use Rattle.packing.specs.Contracts.{RowsSound}
 use Rattle.packing.proofs.Lengths.{length-rows-file}
 
 module _ {A B : Type 0} (g : A → B) where

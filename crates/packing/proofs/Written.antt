@@ -8,16 +8,17 @@ use lib.ListN.{length, getD, take, length-append, length-take, List·getD-eq-def
 use lib.Seq.{getD-take}
 use Rattle.fields.specs.Field.{bytes, bytesOfEach, written}
 use Rattle.fields.proofs.Width.{length-bytes}
-use Rattle.rules.specs.Lists.{each, over}
+use Rattle.rules.specs.Lists.{each, over, Every}
 use Rattle.rules.specs.Unit.{Unit}
 use Rattle.rules.specs.Layout.{unitInRow, bodyOfUnit, contentsFrom, bodiesOf, fileOf}
-use Rattle.rules.proofs.Lists.{length-each, Every}
-use Rattle.rules.proofs.Sound.{Sound, edge-small}
+use Rattle.rules.proofs.Lists.{length-each}
+use Rattle.rules.specs.Sound.{Sound}
+use Rattle.rules.proofs.Sound.{edge-small}
 use Rattle.rules.proofs.Encoding.Pieces.{length-each-bytes}
 use Rattle.rules.proofs.Encoding.Body.{length-body}
 use Rattle.rules.proofs.Encoding.RoundTrip.{length-contents}
 use Rattle.rules.proofs.Encoding.Front.{Front, lent, givenBack, front-none, front-made, front-field, front-tail, front-over}
-use Rattle.packing.specs.Required.{RowsSound, WordsFit}
+use Rattle.packing.specs.Contracts.{RowsSound, WordsFit}
 use Rattle.packing.proofs.Lengths.{sizeOf, total, contents-more, bodies-more, packable}
 
 -- ---- the contents

@@ -11,7 +11,7 @@ ghost use Rattle.rules.specs.Layout.{unitInRow, bodyLength, bodyOfUnit, content
 ghost use Rattle.rules.specs.Refusal.{inOrder, unitVerdict};
 ghost use Rattle.rules.specs.Calls.{packed};
 ghost use Rattle.unit.specs.UnitHeld.{unitHeld};
-ghost use Rattle.packing.specs.Required.{RowsSound, WordsFit};
+ghost use Rattle.packing.specs.Contracts.{RowsSound, WordsFit};
 
 mod reading;
 

@@ -1,1 +1,1 @@
-pub mod Required
+pub mod Contracts

@@ -9,7 +9,7 @@ ghost use Rattle.rules.specs.Lists.{over};
 ghost use Rattle.modbus.specs.View.{panelViewed};
 ghost use Rattle.judging.specs.Judging.{panelJudged};
 ghost use Rattle.sensitivity.specs.Floors.{panelFloored};
-ghost use Rattle.panel.specs.Required.{Answerable};
+ghost use Rattle.panel.specs.Contracts.{Answerable};
 use judging::Judged;
 use modbus::Viewed;
 use rules::Dispatched;

@@ -11,7 +11,7 @@ use lib.ListN.{length, set}
 use mir.Val.{boolByte}
 use borrow.Author.Tests.{leb-true, le-leb}
 use Rattle.regions.specs.Regions.{low, high, Between, Ascending, Inside}
-use Rattle.regions.specs.Writing.{KeptOutside}
+use Rattle.regions.specs.Contracts.{KeptOutside}
 use Rattle.regions.proofs.KeptOutside.{first-written, second-written, both-kept}
 
 -- from..to may be put behind the regions start .. next − 1

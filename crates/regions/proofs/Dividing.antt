@@ -14,11 +14,12 @@ use Rattle.rules.specs.Unit.{Unit, Zone, zoneAt, zones, permitted}
 use Rattle.rules.specs.Regions.{Region, intervals, leftOf, regions}
 use Rattle.rules.specs.Refusal.{zonesAscend}
 use Rattle.rules.proofs.Lists.{length-each}
-use Rattle.rules.proofs.Sound.{Sound, ascending as zones-ascending, zone-between, zone-parts}
+use Rattle.rules.specs.Sound.{Sound}
+use Rattle.rules.proofs.Sound.{ascending as zones-ascending, zone-between, zone-parts}
 use Rattle.rules.proofs.Economics.Outputs.{stands-permitted, runs-permitted, permitted-greatest}
 use Rattle.regions.specs.declared.Window.{Window}
 use Rattle.regions.specs.Regions.{low, high, Between, Ascending, Inside, heldFrom}
-use Rattle.regions.specs.Writing.{KeptOutside, RegionsWritten}
+use Rattle.regions.specs.Contracts.{KeptOutside, RegionsWritten}
 use Rattle.regions.proofs.Windowed.{Windowed}
 use Rattle.regions.proofs.KeptOutside.{kept-all, kept-set, kept-then, first-written, second-written, both-kept}
 use Rattle.regions.proofs.Ascending.{Pushable, Pushed, pushed, counted, push, at-most-one, one-true}

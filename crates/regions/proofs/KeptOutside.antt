@@ -5,7 +5,7 @@ use mathlib.Core.Path.{_≡_, refl, _∙_}
 use mathlib.Core.List.{List}
 use lib.ListN.{length, getD, set, length-set}
 use lib.Seq.{getD-set-same, getD-set-other}
-use Rattle.regions.specs.Writing.{KeptOutside}
+use Rattle.regions.specs.Contracts.{KeptOutside}
 
 module _ {from to : ℕ} where
   pub kept-all : {s : List ℕ} → KeptOutside from to s s

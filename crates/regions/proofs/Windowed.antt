@@ -10,10 +10,10 @@ use borrow.Author.Tests.{lt-ltb, le-ltb, leb-true, le-leb}
 use Rattle.rules.specs.Unit.{Unit, inRampWindow}
 use Rattle.rules.specs.Regions.{Region, windowed as cutTo}
 use Rattle.rules.proofs.Verdicts.{and-true}
-use Rattle.rules.proofs.Sound.{Sound}
+use Rattle.rules.specs.Sound.{Sound}
 use Rattle.regions.specs.Regions.{Between}
 use Rattle.regions.specs.declared.Window.{Window}
-use Rattle.regions.specs.Writing.{Ramped}
+use Rattle.regions.specs.Contracts.{Ramped}
 
 -- the running outputs that the ramp limits leave are those from w .from to w .to
 pub record Windowed (u : Unit) (w : Window) : Type 0 where

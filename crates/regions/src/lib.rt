@@ -3,9 +3,9 @@
 ghost use mathlib.Core.Path.{_≡_};
 ghost use Prim.Native.Nat.{ℕ, _+_, _*_, _≤_, _<_, max, min};
 ghost use lib.ListN.{length, getD};
-ghost use Rattle.rules.proofs.Sound.{Sound};
+ghost use Rattle.rules.specs.Sound.{Sound};
 ghost use Rattle.unit.specs.UnitHeld.{unitHeld};
-ghost use Rattle.regions.specs.Writing.{Ramped, RegionsWritten};
+ghost use Rattle.regions.specs.Contracts.{Ramped, RegionsWritten};
 use unit::Unit;
 
 // The running outputs that the ramp limits leave.

@@ -4,17 +4,18 @@ use mathlib.Core.Bool.{true}
 use mathlib.Core.List.{List, map}
 use Prim.Native.Nat.{ℕ, zero, suc, _<_}
 use native.Mathlib.Omega.{arith}
-use Rattle.rules.specs.Lists.{each}
+use Rattle.rules.specs.Lists.{each, Every}
 use Rattle.rules.specs.Unit.{Unit, permitted}
 use Rattle.rules.specs.Layout.{count, unitAt, caseOf}
 use Rattle.rules.specs.Problem.{Offer, offer, problemOf, problemIn}
 use Rattle.rules.specs.Choice.{choices}
 use Rattle.rules.specs.Choices.{EachMayGive, ChoicesAllocate}
-use Rattle.rules.proofs.Lists.{Every, every-map}
-use Rattle.rules.proofs.Sound.{Sound}
+use Rattle.rules.proofs.Lists.{every-map}
+use Rattle.rules.specs.Sound.{Sound}
 use Rattle.rules.proofs.Economics.Chosen.{some-among}
 use Rattle.rules.proofs.Economics.Outputs.{permitted-offered}
-use Rattle.rules.proofs.Economics.Allocations.{Available, Given, tied-given, choices-tied}
+use Rattle.rules.specs.Offers.{Available, Given}
+use Rattle.rules.proofs.Economics.Allocations.{tied-given, choices-tied}
 use Rattle.rules.proofs.Economics.Solvable.{given-allocation, offer-proper}
 use Rattle.rules.proofs.Encoding.SoundFile.{units-sound}
 

@@ -6,7 +6,7 @@ use Prim.Native.Nat.{ℕ, suc, _+_, _*_, _≤_, _<_}
 use native.Mathlib.Omega.{arith}
 use lib.ListN.{length}
 use borrow.Author.Tests.{le-ltb}
-use Rattle.rules.specs.Lists.{over}
+use Rattle.rules.specs.Lists.{over, Every}
 use Rattle.rules.specs.Unit.{Unit, permitted}
 use Rattle.rules.specs.Layout.{Case, caseOf, count}
 use Rattle.rules.specs.Refusal.{_refuses_, fileVerdict}
@@ -17,10 +17,10 @@ use Rattle.rules.specs.Promise.{Promise, Demand3}
 use Rattle.rules.specs.declared.Refusal.the-variants.{NoAllocation}
 use Rattle.rules.specs.declared.Verdict.{Verdict}
 use Rattle.rules.specs.declared.Dispatched.{Dispatched}
-use Rattle.rules.proofs.Lists.{Every, every-more, length-each}
+use Rattle.rules.proofs.Lists.{every-more, length-each}
 use Rattle.rules.proofs.Verdicts.{and-true, accepts}
 use Rattle.fields.proofs.Integers.{ints, is-pos, is-minus}
-use Rattle.rules.proofs.Sound.{Sound}
+use Rattle.rules.specs.Sound.{Sound}
 use Rattle.rules.proofs.Encoding.SoundFile.{sound-file, units-sound}
 use Rattle.rules.proofs.Encoding.ReplyBytes.{Fitting, length-reply, reply-spelled}
 use Rattle.rules.proofs.Economics.Outputs.{permitted-greatest}

@@ -34,7 +34,7 @@ use Rattle.rules.specs.declared.Refusal.the-variants.{
 }
 use Rattle.rules.specs.declared.Dispatched.{Dispatched}
 use Rattle.rules.specs.declared.Packed.{Packed}
-use Rattle.rules.proofs.Lists.{Every}
+use Rattle.rules.specs.Lists.{Every}
 use Rattle.rules.proofs.Encoding.Body.{Packable}
 use Rattle.rules.proofs.Encoding.RoundTrip.{length-file}
 use Rattle.rules.proofs.Encoding.Undo.{sound-rows, pack-wrote}

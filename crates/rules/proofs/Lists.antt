@@ -8,7 +8,7 @@ use mathlib.Core.Bool.{Bool, true, and-eq-true-iff}
 use mathlib.Core.List.{List, [], _∷_, _++_, map}
 use lib.ListN.{length, getD, take}
 use lib.Seq.{take-all}
-use Rattle.rules.specs.Lists.{each, all}
+use Rattle.rules.specs.Lists.{each, all, Every, Pairwise}
 
 -- ---- each
 
@@ -53,10 +53,6 @@ module _ {A : Type 0} where
   each-getD xs d = each-take (length xs) xs d (omega arith) ∙ take-all (length xs) xs (omega arith)
 
   -- ---- every: a fact of each element of a list
-
-  abbrev pub Every : (A → Type 0) → List A → Type 0
-  Every P [] = Unit {0}
-  Every P (x ∷ xs) = P x × Every P xs
 
   module _ (P : A → Type 0) where
     pub every-at : (xs : List A) (i : ℕ) (d : A) → Every P xs → i < length xs → P (getD xs i d)
@@ -106,12 +102,6 @@ every-map P f (x ∷ xs) =
 -- ---- pairwise: a relation between the elements of two lists, as many in each
 
 module _ {A B : Type 0} where
-  abbrev pub Pairwise : (A → B → Type 0) → List A → List B → Type 0
-  Pairwise R [] [] = Unit {0}
-  Pairwise R [] (y ∷ ys) = ⊥
-  Pairwise R (x ∷ xs) [] = ⊥
-  Pairwise R (x ∷ xs) (y ∷ ys) = R x y × Pairwise R xs ys
-
   pub pairwise-more : (R S : A → B → Type 0) → ((x : A) (y : B) → R x y → S x y) → (xs : List A) (ys : List B) → Pairwise R xs ys → Pairwise S xs ys
   pairwise-more R S h [] [] p = tt
   pairwise-more R S h [] (y ∷ ys) p = absurd p

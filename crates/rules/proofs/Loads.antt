@@ -14,7 +14,7 @@ use lib.Signed.{_≤ℤ_}
 use borrow.Author.Tests.{le-leb, leb-true, le-ltb, ltb-false}
 use Rattle.fields.specs.Field.{field, number}
 use Rattle.fields.proofs.Integers.{ints, at-most}
-use Rattle.rules.specs.Lists.{each, all}
+use Rattle.rules.specs.Lists.{each, all, Every}
 use Rattle.rules.specs.Unit.{Unit}
 use Rattle.rules.specs.Layout.{edition, count, demand, offset, size, body, unitAt, Case, caseOf}
 use Rattle.rules.specs.Refusal.{start, _refuses_, fileVerdict}
@@ -28,10 +28,11 @@ use Rattle.rules.specs.declared.Refusal.the-variants.{NoAllocation, Mult
 use Rattle.rules.specs.declared.Verdict.{Verdict}
 use Rattle.rules.specs.declared.Dispatched.{Dispatched}
 use Rattle.rules.specs.declared.Priced.{Priced}
-use Rattle.rules.proofs.Lists.{Every, each-same, length-each}
+use Rattle.rules.proofs.Lists.{each-same, length-each}
 use Rattle.rules.proofs.Verdicts.{and-true, then-accepted, refuses-accepted}
 use Rattle.rules.proofs.Economics.Rounding.{divided-rises}
-use Rattle.rules.proofs.Economics.Allocations.{Proper, dual-is}
+use Rattle.rules.specs.Offers.{Proper}
+use Rattle.rules.proofs.Economics.Allocations.{dual-is}
 use Rattle.rules.proofs.Economics.Lowering.{more-slack}
 use Rattle.rules.proofs.Economics.Solvable.{solvable-available, solvable-covers, case-proper}
 use Rattle.rules.proofs.Economics.Solution.{shown, at-most-first, same-cost, same-net, same-target}

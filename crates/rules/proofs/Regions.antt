@@ -12,7 +12,8 @@ use Rattle.rules.specs.Unit.{Unit, Zone, zones, permitted, inRampWindow}
 use Rattle.rules.specs.Refusal.{zonesAscend}
 use Rattle.rules.specs.Regions.{Region, inRegion, inSome, intervals, windowed, leftOf, regions, AscendFrom, RegionsHoldPermitted}
 use Rattle.rules.proofs.Verdicts.{either-way, and-true}
-use Rattle.rules.proofs.Sound.{Sound, sound, zone-parts, ascending}
+use Rattle.rules.specs.Sound.{Sound}
+use Rattle.rules.proofs.Sound.{sound, zone-parts, ascending}
 use Rattle.rules.proofs.Zones.{outside, before-zone, after-zone, within-zone}
 use Rattle.rules.proofs.Economics.Outputs.{Runs, stands-permitted, runs-permitted}
 

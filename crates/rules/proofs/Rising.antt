@@ -8,8 +8,9 @@ use lib.Dec.{ltb, eqb}
 use lib.IntN.{pos, _+ℤ_}
 use lib.ListN.{length}
 use lib.Signed.{_<ℤ_}
-use Rattle.fields.proofs.Integers.{up, dn, itself, is-pos, is-add, under, ≤-in, ≤-out, <-out}
-use Rattle.rules.specs.Lists.{each, all}
+use Rattle.fields.specs.Integers.{positivePart, negativePart}
+use Rattle.fields.proofs.Integers.{itself, is-pos, is-add, under, ≤-in, ≤-out, <-out}
+use Rattle.rules.specs.Lists.{each, all, Every}
 use Rattle.rules.specs.Unit.{Unit}
 use Rattle.rules.specs.Layout.{unitOfBody, bodyLength, edition, count, demand, body, unitOfRow, unitsOfRows, unitInRow}
 use Rattle.rules.specs.Refusal.{numberOf, numberOfVerdict, _refuses_, _then_, inOrder, zoneCountInvalid, coefficientOutOfRange, lossesOutOfRange, limitsInvalid, rampOrMarkOutOfRange, editionVerdict, headVerdict, start, entryFits, contentsVerdict, unitVerdict, bodyVerdict, fileVerdict}
@@ -20,7 +21,7 @@ use Rattle.rules.specs.declared.Refusal.the-variants.{FileTooShort, Edit
 use Rattle.rules.specs.declared.Verdict.{Verdict}
 use Rattle.rules.specs.declared.Verdict.the-variants.{Accepted, Refused}
 use Rattle.rules.specs.declared.Packed.{Packed}
-use Rattle.rules.proofs.Lists.{Every, every-each, every-map}
+use Rattle.rules.proofs.Lists.{every-each, every-map}
 use Rattle.rules.proofs.Verdicts.{accepts}
 use Rattle.rules.proofs.Sound.{losses-sound}
 use Rattle.rules.proofs.Economics.Quantities.{net-is, factor-up, net-grows}
@@ -28,7 +29,7 @@ use Rattle.rules.proofs.Economics.Quantities.{net-is, factor-up, net-gr
 -- ---- 18 is exact
 
 rising : (u : Unit) → LinearLossInRange u → NetRises u → (u .b1 +ℤ pos (19999 * u .b)) <ℤ pos 100000000
-unfolding up dn
+unfolding positivePart negativePart
 rising u r n =
     let low = ≤-in (r .least) in
     let high = ≤-in (r .greatest) in
@@ -67,7 +68,7 @@ in-order-never (v ∷ vs) p e = then-never v (inOrder vs) (p .0) (in-order-never
 -- a unit without a linear loss: b is at most 5,000 once 8 has not refused it
 module _ (u : Unit) (none : u .b1 ≡ pos 0) where
   small : coefficientOutOfRange u ≡ false → lossesOutOfRange u ≡ false
-  unfolding up dn
+  unfolding positivePart negativePart
   small e =
       let (_, b) = simp accepts at e in
       losses-sound u .1

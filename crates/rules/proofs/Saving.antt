@@ -11,8 +11,9 @@ use Rattle.rules.specs.Calls.{caseVerdict, dispatched}
 use Rattle.rules.specs.Promise.{Covering}
 use Rattle.rules.specs.Lowering.{LoweringSaves, LowersInFileOrder, LowersFurtherWithMoreToSpare, ChoicesNotCheaper}
 use Rattle.rules.specs.declared.Verdict.{Verdict}
-use Rattle.rules.proofs.Lists.{Every}
-use Rattle.rules.proofs.Economics.Allocations.{Available, tied-given, choices-tied}
+use Rattle.rules.specs.Lists.{Every}
+use Rattle.rules.specs.Offers.{Available}
+use Rattle.rules.proofs.Economics.Allocations.{tied-given, choices-tied}
 use Rattle.rules.proofs.Economics.Lowering.{saves, in-file-order, more-slack}
 use Rattle.rules.proofs.Economics.Solvable.{solvable-available, case-proper}
 use Rattle.rules.proofs.Economics.Solution.{same-cost, same-net, same-target, covering-net, given-permitted}

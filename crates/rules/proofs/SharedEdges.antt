@@ -35,7 +35,8 @@ use Rattle.rules.specs.declared.Verdict.{Verdict}
 use Rattle.rules.specs.declared.Verdict.the-variants.{Accepted}
 use Rattle.rules.proofs.Lists.{each-same}
 use Rattle.rules.proofs.Verdicts.{or-false, and-true, not-is-false, either-way, refuses-accepted, then-accepted, in-order-each}
-use Rattle.rules.proofs.Sound.{Sound, sound, zone-parts, ascending}
+use Rattle.rules.specs.Sound.{Sound}
+use Rattle.rules.proofs.Sound.{sound, zone-parts, ascending}
 use Rattle.rules.proofs.Zones.{outside, before-zone, after-zone, within-zone}
 use Rattle.rules.proofs.Economics.Outputs.{runs-permitted}
 

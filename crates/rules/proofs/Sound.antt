@@ -16,37 +16,16 @@ use Rattle.rules.specs.Unit.{Unit, Zone, zoneAt, zones}
 use Rattle.rules.specs.Refusal.{zonesAscend, startsAbove, unusedEdgesZero, lossesOutOfRange, unitVerdict}
 use Rattle.rules.specs.Losses.{LinearLossInRange}
 use Rattle.rules.specs.declared.Verdict.the-variants.{Accepted}
-use Rattle.rules.proofs.Lists.{Every, every-from, each-every, every-more, all-every}
+use Rattle.rules.specs.Sound.{Sound, SoundLosses}
+use Rattle.rules.specs.Lists.{Every}
+use Rattle.rules.proofs.Lists.{every-from, each-every, every-more, all-every}
 use Rattle.rules.proofs.Verdicts.{accepts}
-
--- number 18
-pub record SoundLosses (u : Unit) : Type 0 where
-  pub range : LinearLossInRange u
-  pub rises : (u .b1 +ℤ pos (19999 * u .b)) <ℤ pos 100000000
 
 pub losses-sound : (u : Unit) → (lossesOutOfRange u ≡ false) ↔ SoundLosses u
 losses-sound u = (
   λ e. let ((least, greatest), rises) = simp accepts at e in record { range = record { least = least; greatest = greatest }; rises = rises },
   λ s. simp accepts ((s .range .least, s .range .greatest), s .rises),
 )
-
-pub record Sound (u : Unit) : Type 0 where
-  pub zoneCount : u .zoneCount ≤ 4
-  pub unused : (k : ℕ) → 2 * u .zoneCount ≤ k → getD (u .edges) k 0 ≡ 0
-  pub c0 : u .c0 ≤ 1000000000
-  pub c1 : u .c1 ≤ 10000000
-  pub c2 : u .c2 ≤ 1000
-  pub b : u .b ≤ 5000
-  pub losses : SoundLosses u
-  pub least : 1 ≤ u .least
-  pub range : u .least < u .greatest
-  pub greatest : u .greatest ≤ 10000
-  pub above : startsAbove (u .least) (zones u) ≡ true
-  pub ascend : zonesAscend (u .least) (zones u) (u .greatest) ≡ true
-  pub previous : u .previous ≤ 10000
-  pub up : u .up ≤ 10000
-  pub down : u .down ≤ 10000
-  pub mark : u .mark ≤ 1
 
 -- ---- the unused edges
 

@@ -10,12 +10,12 @@ use lib.IntN.{ℤ}
 use lib.Signed.{leZ, ltZ, _≤ℤ_, _<ℤ_}
 use borrow.Author.Tests.{ltb-true, ltb-false, leb-true, eqb-true, eqb-false, lt-ltb, le-ltb, le-leb, eq-eqb, ne-eqb, not-false}
 use Rattle.fields.proofs.Integers.{itself, at-most, under, when-ge, when-gt, not-under, not-at-most}
-use Rattle.rules.specs.Lists.{each}
+use Rattle.rules.specs.Lists.{each, Every}
 use Rattle.rules.specs.Refusal.{_refuses_, _then_, inOrder}
 use Rattle.rules.specs.declared.Refusal.{Refusal}
 use Rattle.rules.specs.declared.Verdict.{Verdict}
 use Rattle.rules.specs.declared.Verdict.the-variants.{Accepted, Refused}
-use Rattle.rules.proofs.Lists.{Every, every-each, each-every}
+use Rattle.rules.proofs.Lists.{every-each, each-every}
 
 -- ---- tests: what each says of its numbers or parts
 

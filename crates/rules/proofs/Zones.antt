@@ -10,10 +10,10 @@ use lib.Dec.{ltb}
 use lib.ListN.{drop}
 use lib.Seq.{drop-cons}
 use borrow.Author.Tests.{lt-ltb, le-ltb}
-use Rattle.rules.specs.Lists.{all}
+use Rattle.rules.specs.Lists.{all, Every}
 use Rattle.rules.specs.Unit.{Unit, Zone, zoneAt, zones, strictlyInside}
 use Rattle.rules.specs.Refusal.{zonesAscend}
-use Rattle.rules.proofs.Lists.{Every, getD-each, length-each}
+use Rattle.rules.proofs.Lists.{getD-each, length-each}
 use Rattle.rules.proofs.Sound.{ZoneBetween, zone-parts, ascending}
 
 -- ---- a zone

@@ -12,6 +12,8 @@ pub mod Stages
 pub mod Calls
 pub mod Undoing
 pub mod Losses
+pub mod Sound
+pub mod Offers
 pub mod SharedEdges
 pub mod Promise
 pub mod Loads

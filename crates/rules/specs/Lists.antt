@@ -1,4 +1,4 @@
--- The few functions on lists that the rules need; `over` is rule 13.6 of docs/SPECIFICATION.md.
+-- The few functions on lists that the rules need, and what contracts say of lists; `over` is rule 13.6 of docs/SPECIFICATION.md.
 use Prim.Native.Nat.{ℕ, zero, suc, _+_, max}
 use mathlib.Core.Bool.{Bool, true, cond, _&&_}
 use mathlib.Core.List.{List, [], _∷_, _++_}
@@ -32,3 +32,23 @@ sum (x ∷ xs) = x + sum xs
 abbrev pub greatest : List ℕ → ℕ
 greatest [] = 0
 greatest (x ∷ xs) = max x (greatest xs)
+
+-- ---- statements of lists
+
+-- the true statement, of which `tt` is the proof
+abbrev pub True : Type 0
+True = Unit {0}
+
+-- a statement of every element
+module _ {A : Type 0} where
+  abbrev pub Every : (A → Type 0) → List A → Type 0
+  Every P [] = True
+  Every P (x ∷ xs) = P x × Every P xs
+
+-- a relation between the elements of two lists, as many in each
+module _ {A B : Type 0} where
+  abbrev pub Pairwise : (A → B → Type 0) → List A → List B → Type 0
+  Pairwise R [] [] = True
+  Pairwise R [] (y ∷ ys) = ⊥
+  Pairwise R (x ∷ xs) [] = ⊥
+  Pairwise R (x ∷ xs) (y ∷ ys) = R x y × Pairwise R xs ys

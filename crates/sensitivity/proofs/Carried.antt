@@ -1,4 +1,4 @@
--- A dual value carried to another demand: it is that of the same offers with that demand, so that weak duality bounds it; and rounding up after the greatest is taken gives the same as before.
+-- A dual value carried to another demand: it is that of the same offers with that demand, so that weak duality bounds it; and rounding positivePart after the greatest is taken gives the same as before.
 use Prim.Native.Nat.{ℕ, _+_, _*_, _≤_, _<_}
 use native.Mathlib.Nat.{mul-le-mul-left}
 use native.Mathlib.Omega.{arith}
@@ -8,14 +8,15 @@ use mathlib.Core.List.{List, [], _∷_, map}
 use lib.IntN.{ℤ, pos, _+ℤ_, _-ℤ_, _*ℤ_}
 use lib.ListN.{length}
 use lib.Signed.{_≤ℤ_, leZ}
-use Rattle.fields.proofs.Integers.{Is, up, dn, itself, is-pos, is-add, is-minus, is-product, same, at-most, up-is, dn-is, ints, when-le, when-gt, yes-at-most, not-at-most}
+use Rattle.fields.specs.Integers.{Is, positivePart, negativePart}
+use Rattle.fields.proofs.Integers.{itself, is-pos, is-add, is-minus, is-product, same, at-most, up-is, dn-is, ints, when-le, when-gt, yes-at-most, not-at-most}
 use Rattle.rules.specs.Numbers.{total, dividedUp, greatestAt}
 use Rattle.rules.specs.Problem.{Problem, target}
 use Rattle.rules.specs.Choice.{leastPricedCost, dualValue, floor}
 use Rattle.rules.proofs.Economics.Greatest.{greatest-same}
 use Rattle.rules.proofs.Economics.Rounding.{divided-rises}
 use Rattle.sensitivity.specs.Floors.{dualFor}
-use Rattle.sensitivity.specs.Held.{Shifted, carried}
+use Rattle.sensitivity.specs.Contracts.{Shifted, carried}
 
 -- the same offers with another demand
 abbrev pub at : Problem → ℕ → Problem
@@ -23,11 +24,11 @@ at q d = record { demand = d; offers = q .offers }
 
 module _ (m : ℕ) (q : Problem) (d : ℕ) where
   -- the units' part of the dual value, and the demand's
-  parts : (e : ℕ) → Is (dualValue m (at q e)) (up (total (map (leastPricedCost m) (q .offers))) + m * (100000000 * e)) (dn (total (map (leastPricedCost m) (q .offers))))
+  parts : (e : ℕ) → Is (dualValue m (at q e)) (positivePart (total (map (leastPricedCost m) (q .offers))) + m * (100000000 * e)) (negativePart (total (map (leastPricedCost m) (q .offers))))
   unfolding dualValue
   parts e = record { is = omega (arith, is-add (itself (total (map (leastPricedCost m) (q .offers)))) (is-pos (m * (100000000 * e)))) }
 
-  own : Is (dualValue m q) (up (total (map (leastPricedCost m) (q .offers))) + m * (100000000 * q .demand)) (dn (total (map (leastPricedCost m) (q .offers))))
+  own : Is (dualValue m q) (positivePart (total (map (leastPricedCost m) (q .offers))) + m * (100000000 * q .demand)) (negativePart (total (map (leastPricedCost m) (q .offers))))
   unfolding dualValue
   own = parts (q .demand)
 
@@ -54,7 +55,7 @@ dual-rises m q d e h = rw (dual-for m q d, dual-for m q e) (at-most (parts m q d
 pub dual-at-zero : (q : Problem) (d e : ℕ) → dualFor 0 q d ≡ dualFor 0 q e
 dual-at-zero q d e = rw (dual-for 0 q d, dual-for 0 q e) (same (parts 0 q d d) (parts 0 q e e) (omega arith))
 
--- ---- rounding up, and the greatest
+-- ---- rounding positivePart, and the greatest
 
 module _ (f : ℕ → ℤ) where
   abbrev up′ : ℤ → ℤ

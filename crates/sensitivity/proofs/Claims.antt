@@ -11,7 +11,7 @@ use lib.ListN.{length, getD}
 use lib.Signed.{_≤ℤ_}
 use borrow.Author.Tests.{leb-true, le-ltb}
 use Rattle.fields.proofs.Integers.{ints}
-use Rattle.rules.specs.Lists.{all, over}
+use Rattle.rules.specs.Lists.{all, over, Every}
 use Rattle.rules.specs.Numbers.{dividedUp, greatestAt}
 use Rattle.rules.specs.Layout.{caseOf}
 use Rattle.rules.specs.Refusal.{_refuses_, _then_}
@@ -24,11 +24,11 @@ use Rattle.rules.specs.declared.Refusal.{Refusal}
 use Rattle.rules.specs.declared.Refusal.the-variants.{NoAllocation, DemandsInvalid, FloorsTooShort}
 use Rattle.rules.specs.declared.Verdict.{Verdict}
 use Rattle.rules.specs.declared.Dispatched.{Dispatched}
-use Rattle.rules.proofs.Lists.{Every}
-use Rattle.rules.proofs.Sound.{Sound}
+use Rattle.rules.specs.Sound.{Sound}
 use Rattle.rules.proofs.Verdicts.{then-accepted}
 use Rattle.rules.proofs.Encoding.SoundFile.{units-sound}
-use Rattle.rules.proofs.Economics.Allocations.{Available, relaxation}
+use Rattle.rules.specs.Offers.{Available}
+use Rattle.rules.proofs.Economics.Allocations.{relaxation}
 use Rattle.rules.proofs.Economics.Duality.{weak-duality, floor-zero-not-negative}
 use Rattle.rules.proofs.Economics.Greatest.{greatest-of, greatest-same, greatest-rises}
 use Rattle.rules.proofs.Economics.Lowering.{selected-tied}

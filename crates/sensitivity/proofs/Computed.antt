@@ -11,24 +11,25 @@ use lib.Signed.{leZ}
 use mir.Syntax.{w64}
 use mir.Val.{SFits, toZ, ofZ}
 use mir.Facts.{toZ-ofZ}
-use Rattle.fields.proofs.Integers.{Is, up, dn, itself, is-add, is-product, fits}
+use Rattle.fields.specs.Integers.{Is, positivePart, negativePart}
+use Rattle.fields.proofs.Integers.{itself, is-add, is-product, fits}
 use Rattle.rules.specs.Numbers.{greatestAt}
 use Rattle.rules.specs.Problem.{Problem}
 use Rattle.rules.specs.Choice.{dualValue}
-use Rattle.bisection.specs.Search.{multiplierAt, dualAt, Traces}
-use Rattle.sensitivity.specs.Held.{PairInRange, Shifted, carried}
+use Rattle.bisection.specs.Contracts.{multiplierAt, dualAt, Traces}
+use Rattle.sensitivity.specs.Contracts.{PairInRange, Shifted, carried}
 
 -- ---- one pair
 
 module _ {m d s : ℤ} (p : PairInRange m d) (h : Shifted s) where
-  above : up m * up s ≤ 65536 * 32000000000000
+  above : positivePart m * positivePart s ≤ 65536 * 32000000000000
   above = mul-le-mul (p .multiplier) (h .above)
 
-  below : up m * dn s ≤ 65536 * 32000000000000
+  below : positivePart m * negativePart s ≤ 65536 * 32000000000000
   below = mul-le-mul (p .multiplier) (h .below)
 
-  product : Is (m *ℤ s) (up m * up s) (up m * dn s)
-  product = record { is = omega (arith, is-product (itself m) (itself s), ap (λ (n : ℕ). n * dn s) (p .natural), ap (λ (n : ℕ). n * up s) (p .natural)) }
+  product : Is (m *ℤ s) (positivePart m * positivePart s) (positivePart m * negativePart s)
+  product = record { is = omega (arith, is-product (itself m) (itself s), ap (λ (n : ℕ). n * negativePart s) (p .natural), ap (λ (n : ℕ). n * positivePart s) (p .natural)) }
 
   m-kept : toZ w64 (ofZ w64 m) ≡ m
   m-kept = toZ-ofZ {w = w64} (fits (itself m) (omega (arith, p .multiplier)) (omega (arith, p .natural)))

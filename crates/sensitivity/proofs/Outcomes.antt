@@ -8,14 +8,14 @@ use lib.Dec.{ltb, leb}
 use lib.IntN.{ℤ}
 use lib.ListN.{length}
 use borrow.Author.Tests.{lt-ltb, le-ltb, ltb-false, leb-true}
-use Rattle.rules.specs.Lists.{all, over}
+use Rattle.rules.specs.Lists.{all, over, Every}
 use Rattle.rules.specs.Refusal.{numberOf, _refuses_, _then_}
 use Rattle.rules.specs.Problem.{problemIn}
 use Rattle.rules.specs.Calls.{caseVerdict}
 use Rattle.rules.specs.declared.Refusal.{Refusal}
 use Rattle.rules.specs.declared.Refusal.the-variants.{BufferTooShort, DemandsInvalid, FloorsTooShort}
 use Rattle.rules.specs.declared.Verdict.{Verdict}
-use Rattle.rules.proofs.Lists.{Every, every-more, all-every}
+use Rattle.rules.proofs.Lists.{every-more, all-every}
 use Rattle.rules.proofs.Verdicts.{or-false, not-is-false, refuses-accepted, then-accepted}
 use Rattle.sensitivity.specs.declared.Floored.{Floored}
 use Rattle.sensitivity.specs.Floors.{FloorsResult, floorFor, floorsVerdict, floorsEnd, floored, numberOfFloored, answersOfFloored, panelFloored}

@@ -7,28 +7,30 @@ use mathlib.Core.Path.{_≡_, refl, sym, ap, subst, subst⁻¹, _∙_}
 use mathlib.Core.List.{List, [], _∷_, List·Memᴰ, List·Memᴰ·head, List·Memᴰ·tail, List·Memᴰ·not-nil}
 use lib.IntN.{ℤ, pos}
 use lib.ListN.{length}
-use Rattle.fields.proofs.Integers.{Is, up, dn, up-is, dn-is, is-pos}
+use Rattle.fields.specs.Integers.{Is, positivePart, negativePart}
+use Rattle.fields.proofs.Integers.{up-is, dn-is, is-pos}
 use Rattle.rules.specs.Layout.{caseOf}
 use Rattle.rules.specs.Problem.{totalCost, totalNet, Problem, unitsOf, target, problemOf, problemIn}
 use Rattle.rules.specs.Choice.{choices, dualValue}
 use Rattle.rules.specs.Bisection.{found}
 use Rattle.rules.specs.Calls.{caseVerdict}
 use Rattle.rules.specs.declared.Verdict.{Verdict}
-use Rattle.rules.proofs.Lists.{Every}
-use Rattle.rules.proofs.Sound.{Sound}
+use Rattle.rules.specs.Lists.{Every}
+use Rattle.rules.specs.Sound.{Sound}
 use Rattle.rules.proofs.Encoding.SoundFile.{units-sound}
-use Rattle.rules.proofs.Economics.Allocations.{Available, tied-given, choices-tied, dual-is}
+use Rattle.rules.specs.Offers.{Available}
+use Rattle.rules.proofs.Economics.Allocations.{tied-given, choices-tied, dual-is}
 use Rattle.rules.proofs.Economics.Search.{Seen}
 use Rattle.rules.proofs.Economics.Solvable.{case-proper, solvable-available}
 use Rattle.rules.proofs.Economics.Solution.{evaluated, same-cost, same-net, given-permitted}
 use Rattle.rules.proofs.Economics.Totals.{total-cost-range, total-net-range}
 use Rattle.rules.proofs.Demand3.{case-accepted, allocation-small}
 use Rattle.rules.proofs.Replied.{few-units}
-use Rattle.evaluation.specs.Step1.{First}
+use Rattle.evaluation.specs.Contracts.{First}
 use Rattle.bisection.specs.declared.steps.Found as code-found
-use Rattle.bisection.specs.Search.{Holding, multiplierAt, dualAt, Traces, Searches}
+use Rattle.bisection.specs.Contracts.{Holding, multiplierAt, dualAt, Traces, Searches}
 use Rattle.bisection.proofs.Starting.{holding, greatest-held}
-use Rattle.sensitivity.specs.Held.{PairInRange, Traced}
+use Rattle.sensitivity.specs.Contracts.{PairInRange, Traced}
 
 -- a pair of the trace is a multiplier of the list with its dual value
 pub record PairOf (q : Problem) (ms : List ℕ) (trace : List ℤ) (k : ℕ) : Type 0 where

@@ -10,9 +10,9 @@ use lib.Seq.{take-suc, take-all}
 use Rattle.rules.specs.Numbers.{dividedUp, greatestAt}
 use Rattle.rules.specs.Problem.{Problem, target}
 use Rattle.rules.proofs.Encoding.Front.{Front, front-none, front-set, front-over}
-use Rattle.bisection.specs.Search.{Traces}
+use Rattle.bisection.specs.Contracts.{Traces}
 use Rattle.sensitivity.specs.Floors.{dualFor}
-use Rattle.sensitivity.specs.Held.{FloorsWritten}
+use Rattle.sensitivity.specs.Contracts.{FloorsWritten}
 
 -- of the multipliers ms of q, the floor for d
 abbrev floorOf : Problem → List ℕ → ℕ → ℤ

@@ -8,7 +8,7 @@ ghost use lib.IntN.{pos, _-ℤ_};
 ghost use lib.ListN.{length};
 ghost use Rattle.rules.specs.Lists.{all};
 ghost use Rattle.sensitivity.specs.Floors.{floored};
-ghost use Rattle.sensitivity.specs.Held.{Shifted, Traced, GreatestDual, Writable, FloorsWritten};
+ghost use Rattle.sensitivity.specs.Contracts.{Shifted, Traced, GreatestDual, Writable, FloorsWritten};
 use bisection::Allocation;
 use evaluation::FirstBest;
 use rules::Refusal;

@@ -6,9 +6,9 @@ use mathlib.Core.List.{List}
 use lib.ListN.{length, getD, set, length-set}
 use lib.Seq.{getD-set-same, getD-set-other}
 use Rattle.rules.specs.Unit.{Unit, linearFactor}
-use Rattle.rules.proofs.Sound.{Sound}
-use Rattle.regions.specs.Writing.{KeptOutside}
-use Rattle.site.specs.Writing.{CoefficientsWritten}
+use Rattle.rules.specs.Sound.{Sound}
+use Rattle.regions.specs.Contracts.{KeptOutside}
+use Rattle.site.specs.Contracts.{CoefficientsWritten}
 use Rattle.regions.proofs.KeptOutside.{kept-set, kept-then, first-written, second-written, both-kept}
 
 module _ (u : Unit) (i : ℕ) (before : List ℕ) (s : Sound u) (room : 5 * i + 5 ≤ length before) where

@@ -21,7 +21,7 @@ use Rattle.rules.proofs.Encoding.SoundFile.{sound-head}
 use Rattle.casefile.proofs.Body.{verdictAt}
 use Rattle.casefile.proofs.File.{file-head, file-contents, file-bodies}
 use Rattle.site.specs.Site.{noOffer, Site}
-use Rattle.site.specs.Writing.{BodiesNamed}
+use Rattle.site.specs.Contracts.{BodiesNamed}
 use Rattle.site.proofs.UnitsWritten.{UnitsWritten, Offering, units-start, problem-held, problem-unserved}
 
 -- ---- refusals of the file, and of a unit without a permitted output

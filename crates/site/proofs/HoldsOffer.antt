@@ -9,14 +9,15 @@ use native.Mathlib.Omega.{arith}
 use lib.ListN.{getD}
 use Rattle.rules.specs.Unit.{Unit}
 use Rattle.rules.specs.Problem.{Offer, offer}
-use Rattle.rules.proofs.Economics.Chosen.{Among, none-among}
+use Rattle.rules.specs.Offers.{Among}
+use Rattle.rules.proofs.Economics.Chosen.{none-among}
 use Rattle.rules.proofs.Economics.Outputs.{offered-permitted, permitted-offered}
 use Rattle.rules.proofs.Economics.Solvable.{offer-proper}
 use Rattle.regions.specs.Regions.{low, high, Ascending, Inside}
-use Rattle.regions.specs.Writing.{KeptOutside, RegionsWritten}
+use Rattle.regions.specs.Contracts.{KeptOutside, RegionsWritten}
 use Rattle.regions.proofs.KeptOutside.{kept-all}
 use Rattle.site.specs.Site.{first, last, Within, Regions, HoldsOffer}
-use Rattle.site.specs.Writing.{CoefficientsWritten, RangeWritten, UnitWritten}
+use Rattle.site.specs.Contracts.{CoefficientsWritten, RangeWritten, UnitWritten}
 
 -- ---- the same in other arrays
 

@@ -13,7 +13,7 @@ use Rattle.rules.specs.Problem.{Offer, Problem, offer}
 use Rattle.rules.specs.Bisection.{solvable}
 use Rattle.rules.proofs.Lists.{every-at, all-every}
 use Rattle.site.specs.Site.{HoldsOffer, HoldsProblem, noOffer}
-use Rattle.site.specs.Writing.{UnitWritten}
+use Rattle.site.specs.Contracts.{UnitWritten}
 
 -- ---- the loop over the units
 

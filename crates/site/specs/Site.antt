@@ -10,9 +10,8 @@ use Rattle.rules.specs.Refusal.{fileVerdict}
 use Rattle.rules.specs.Problem.{Offer, Problem, target, problemIn}
 use Rattle.rules.specs.Calls.{caseVerdict}
 use Rattle.rules.specs.declared.Verdict.{Verdict}
-use Rattle.rules.proofs.Sound.{Sound}
-use Rattle.rules.proofs.Economics.Chosen.{Among}
-use Rattle.rules.proofs.Economics.Allocations.{Proper}
+use Rattle.rules.specs.Sound.{Sound}
+use Rattle.rules.specs.Offers.{Among, Proper}
 use Rattle.regions.specs.Regions.{Ascending, Inside}
 use Rattle.site.specs.declared.Decoded.{Decoded}
 

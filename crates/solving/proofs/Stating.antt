@@ -6,7 +6,7 @@ use Rattle.rules.specs.Numbers.{natural}
 use Rattle.rules.specs.Bisection.{replyOf}
 use Rattle.bisection.specs.declared.steps.Found as code-found
 use Rattle.solving.specs.declared.Reply as code-reply
-use Rattle.solving.specs.Solved.{States}
+use Rattle.solving.specs.Contracts.{States}
 
 -- with the distance of the cost above the floor as its gap
 pub states : (t : ℕ) (f : code-found.Found) {gap : ℕ} → gap ≡ natural (pos (f .best .cost) -ℤ f .floor) → States t f (record { evaluations = f .evaluations; cost = f .best .cost; gap = gap; surplus = f .best .net - t; outputs = f .best .outputs })

@@ -1,7 +1,7 @@
 // The solution of a problem whose arrays are decoded, as a reply states it, before it is bytes: the search (crate `bisection`), and cost,
 // gap and surplus of what it found.
-ghost use Rattle.bisection.specs.Solving.{Solving};
-ghost use Rattle.solving.specs.Solved.{Stateable, States, Solves};
+ghost use Rattle.bisection.specs.Contracts.{Solving};
+ghost use Rattle.solving.specs.Contracts.{Stateable, States, Solves};
 use bisection::Allocation;
 use bisection::Found;
 

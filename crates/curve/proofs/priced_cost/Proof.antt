@@ -6,7 +6,8 @@ use lib.IntN.{ℤ, _+ℤ_, _*ℤ_}
 use mir.Syntax.{w64}
 use mir.Val.{SFits, toZ, ofZ}
 use borrow.Author.Needs.{needs}
-use Rattle.fields.proofs.Integers.{Is, up, dn, back, cast, is-add, is-product, fits, kept, same}
+use Rattle.fields.specs.Integers.{Is, positivePart, negativePart}
+use Rattle.fields.proofs.Integers.{back, cast, is-add, is-product, fits, kept, same}
 use Rattle.curve.proofs.Heights.{height-is}
 use Rattle.curve.proofs.priced_cost.Statement.{statement}
 use Rattle.curve.proofs.priced_cost.Tie as tie
@@ -37,10 +38,10 @@ module _ (c : tie.Start) where
   slope : a * p * p ≤ 100000000000000000
   slope = mul-le-mul squared (c .pre .1)
 
-  above : up l * p ≤ 100000000000000000
+  above : positivePart l * p ≤ 100000000000000000
   above = mul-le-mul (c .pre .0 .above) (c .pre .1)
 
-  below : dn l * p ≤ 100000000000000000
+  below : negativePart l * p ≤ 100000000000000000
   below = mul-le-mul (c .pre .0 .below) (c .pre .1)
 
   -- a × p, a × p + l, (a × p + l) × p and (a × p + l) × p + k: as computed and as read
@@ -56,22 +57,22 @@ module _ (c : tie.Start) where
   abbrev Second : ℤ
   Second = toZ w64 (ofZ w64 First) +ℤ toZ w64 (ofZ w64 l)
 
-  second-is : Is Second (a * p + up l) (0 + dn l)
+  second-is : Is Second (a * p + positivePart l) (0 + negativePart l)
   second-is = is-add first-read (back (linear-fits c))
 
-  second-read : Is (toZ w64 (ofZ w64 Second)) (a * p + up l) (0 + dn l)
+  second-read : Is (toZ w64 (ofZ w64 Second)) (a * p + positivePart l) (0 + negativePart l)
   second-read = kept second-is (omega (arith, squared, c .pre .0 .above)) (omega (arith, c .pre .0 .below))
 
   abbrev Third : ℤ
   Third = toZ w64 (ofZ w64 Second) *ℤ toZ w64 p
 
-  third-is : Is Third (a * p * p + up l * p) (dn l * p)
+  third-is : Is Third (a * p * p + positivePart l * p) (negativePart l * p)
   third-is = record { is = omega (arith, is-product second-read x-is) }
 
-  third-read : Is (toZ w64 (ofZ w64 Third)) (a * p * p + up l * p) (dn l * p)
+  third-read : Is (toZ w64 (ofZ w64 Third)) (a * p * p + positivePart l * p) (negativePart l * p)
   third-read = kept third-is (omega (arith, slope, above)) (omega (arith, below))
 
-  fourth-is : Is (toZ w64 (ofZ w64 Third) +ℤ toZ w64 k) (a * p * p + up l * p + k) (dn l * p + 0)
+  fourth-is : Is (toZ w64 (ofZ w64 Third) +ℤ toZ w64 k) (a * p * p + positivePart l * p + k) (negativePart l * p + 0)
   fourth-is = is-add third-read (cast k (omega (arith, c .pre .0 .constant)))
 
 cast-x : tie.Need-cast-x

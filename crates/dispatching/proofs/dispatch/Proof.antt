@@ -3,7 +3,7 @@ use native.Mathlib.Omega.{arith}
 use mathlib.Core.Path.{subst}
 use denote.Ref.{now}
 use borrow.Author.Needs.{needs}
-use Rattle.evaluation.specs.Step1.{First, FindsFirst}
+use Rattle.evaluation.specs.Contracts.{First, FindsFirst}
 use Rattle.bisection.proofs.Starting.{solving}
 use Rattle.dispatching.proofs.Endings.{promised, short, refused, replied}
 use Rattle.dispatching.proofs.dispatch.Statement.{statement}

@@ -7,7 +7,8 @@ use mir.Syntax.{w32, w64}
 use mir.Val.{SFits, toZ, ofZ}
 use borrow.Author.Needs.{needs}
 use Rattle.fields.specs.Field.{signed}
-use Rattle.fields.proofs.Integers.{Is, is-pos, is-sub, is-minus, cast, cast-at, fits, kept, kept-at, same}
+use Rattle.fields.specs.Integers.{Is}
+use Rattle.fields.proofs.Integers.{is-pos, is-sub, is-minus, cast, cast-at, fits, kept, kept-at, same}
 use Rattle.fields.proofs.Signed.{signed-lower, signed-upper}
 use Rattle.fields.proofs.read_i32.Statement.{statement}
 use Rattle.fields.proofs.read_i32.Tie as tie

@@ -3,7 +3,7 @@ use mathlib.Core.Path.{_≡_, sym, subst, _∙_}
 use lib.ListN.{length}
 use denote.Ref.{now}
 use borrow.Author.Needs.{needs}
-use Rattle.evaluation.specs.Step1.{First, FindsFirst}
+use Rattle.evaluation.specs.Contracts.{First, FindsFirst}
 use Rattle.rules.specs.Layout.{caseOf}
 use Rattle.bisection.proofs.Starting.{solving}
 use Rattle.judging.proofs.Outcomes.{units-counted, held}

@@ -7,7 +7,7 @@ use mir.Facts.{toZ-ofZ}
 use denote.Ref.{now}
 use borrow.Author.Needs.{needs}
 use Rattle.rules.specs.Numbers.{natural}
-use Rattle.judging.specs.Held.{SumTold, SumHeld}
+use Rattle.judging.specs.Contracts.{SumTold, SumHeld}
 use Rattle.judging.proofs.Outcomes.{unpermitted, uncovered, measurable, accepted}
 use Rattle.judging.proofs.judge_outputs.Statement.{statement}
 use Rattle.judging.proofs.judge_outputs.Tie as tie

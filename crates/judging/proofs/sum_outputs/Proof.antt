@@ -6,7 +6,7 @@ use denote.Ref.{now}
 use borrow.Author.Tests.{not-true, not-false}
 use Rattle.rules.proofs.Economics.Quantities.{cost-range}
 use Rattle.site.specs.Site.{first, last, Within, noOffer, HoldsOffer}
-use Rattle.evaluation.specs.Totals.{Sized}
+use Rattle.evaluation.specs.Contracts.{Sized}
 use Rattle.choice.proofs.Regions.{small}
 use Rattle.judging.proofs.Summing.{Totalling, totalling-starts, not-given, sized-more, totalling-more, totalling-ends}
 use Rattle.judging.proofs.sum_outputs.Statement.{statement}

@@ -9,7 +9,7 @@ use borrow.Author.Needs.{needs}
 use Rattle.rules.specs.Unit.{Unit}
 use Rattle.rules.proofs.Economics.Quantities.{cost-range, net-range}
 use Rattle.site.specs.Site.{Coefficients}
-use Rattle.lowering.specs.Lowering.{netLowered}
+use Rattle.lowering.specs.Contracts.{netLowered}
 use Rattle.lowering.proofs.lower_unit.Statement.{statement}
 use Rattle.lowering.proofs.lower_unit.Tie as tie
 

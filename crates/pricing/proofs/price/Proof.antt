@@ -5,7 +5,7 @@ use mir.Facts.{toZ-ofZ}
 use denote.Ref.{now}
 use borrow.Author.Needs.{needs}
 use Rattle.fields.proofs.Integers.{is-same}
-use Rattle.evaluation.specs.Step1.{First, FindsFirst}
+use Rattle.evaluation.specs.Contracts.{First, FindsFirst}
 use Rattle.evaluation.proofs.Covering.{multiplier-refused, case-refused, dualable, valued}
 use Rattle.pricing.proofs.price.Statement.{statement}
 use Rattle.pricing.proofs.price.Tie as tie

@@ -9,32 +9,19 @@ use native.Mathlib.Omega.{arith}
 use lib.IntN.{ℤ}
 use lib.ListN.{length}
 use lib.Signed.{_≤ℤ_}
-use Rattle.rules.specs.Lists.{greatest}
+use Rattle.rules.specs.Lists.{greatest, Every, Pairwise}
 use Rattle.rules.specs.Numbers.{total}
 use Rattle.rules.specs.Unit.{cost, net}
 use Rattle.rules.specs.Problem.{totalCost, totalNet, Offer, Problem, unitsOf, target}
+use Rattle.rules.specs.Offers.{Given, Proper, Available, Chosen, Among, Ascends}
 use Rattle.rules.specs.Choice.{pricedCost, choice, leastTied, leastPricedCost, choices, dualValue}
-use Rattle.rules.proofs.Lists.{Every, Pairwise, pairwise-more, pairwise-map}
-use Rattle.fields.proofs.Integers.{ints, Is, is-pos, is-add}
-use Rattle.rules.proofs.Sound.{Sound}
-use Rattle.rules.proofs.Economics.Chosen.{Chosen, Among, some-among, Ascends, scanned}
+use Rattle.rules.proofs.Lists.{pairwise-more, pairwise-map}
+use Rattle.fields.specs.Integers.{Is}
+use Rattle.fields.proofs.Integers.{ints, is-pos, is-add}
+use Rattle.rules.specs.Sound.{Sound}
+use Rattle.rules.proofs.Economics.Chosen.{some-among, scanned}
 use Rattle.rules.proofs.Economics.Quantities.{priced-is, net-monotone}
 use Rattle.rules.proofs.Economics.Duality.{Relaxation}
-
--- each unit is given one of the outputs that it offers
-abbrev pub Given : List Offer → List ℕ → Type 0
-Given = Pairwise (λ o p. Among p (o .outputs))
-
--- an offer of a sound unit: outputs that ascend and are in range
-pub record Proper (o : Offer) : Type 0 where
-  pub sound : Sound (o .unit)
-  pub ascends : Ascends (o .outputs)
-  pub small : (p : ℕ) → Among p (o .outputs) → p ≤ 10000
-
--- and there are some
-pub record Available (o : Offer) : Type 0 where
-  pub proper : Proper o
-  pub some : 0 < length (o .outputs)
 
 -- ---- tied at m: each unit is given an output that it offers, of its least priced cost
 

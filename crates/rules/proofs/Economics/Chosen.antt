@@ -8,17 +8,9 @@ use native.Mathlib.Omega.{arith}
 use lib.IntN.{ℤ}
 use lib.ListN.{length}
 use lib.Signed.{_≤ℤ_, _<ℤ_, leZ}
+use Rattle.rules.specs.Offers.{Among, AscendsAbove, Ascends, Chosen}
 use Rattle.rules.specs.Choice.{better, earlier, preferredFrom, preferred}
 use Rattle.fields.proofs.Integers.{ints, itself, when-le, when-gt, yes-at-most, not-at-most}
-
--- of the candidates of least cost, r is the greatest and l the least
-pub record Chosen (f : ℕ → ℤ) (Candidate : ℕ → Type 0) (r l : ℕ) : Type 0 where
-  pub candidate : Candidate r
-  pub tied : Candidate l
-  pub level : f l ≡ f r
-  pub least : (p : ℕ) → Candidate p → f r ≤ℤ f p
-  pub last : (p : ℕ) → Candidate p → f p ≡ f r → p ≤ r
-  pub first : (p : ℕ) → Candidate p → f p ≡ f r → l ≤ p
 
 -- there is one of each at most
 pub unique : {f : ℕ → ℤ} {C : ℕ → Type 0} {r l s k : ℕ} → Chosen f C r l → Chosen f C s k → (r ≡ s) × (l ≡ k)
@@ -144,10 +136,6 @@ module _ (f : ℕ → ℤ) (p q : ℕ) where
 
 -- ---- candidates in a list that ascends
 
-abbrev pub Among : ℕ → List ℕ → Type 0
-Among p [] = ⊥
-Among p (q ∷ qs) = (p ≡ q) ⊎ Among p qs
-
 pub none-among : (ps : List ℕ) → ((p : ℕ) → Among p ps → ⊥) → ps ≡ []
 none-among [] h = refl
 none-among (p ∷ ps) h = absurd (h p (inl refl))
@@ -155,15 +143,6 @@ none-among (p ∷ ps) h = absurd (h p (inl refl))
 pub some-among : (p : ℕ) (ps : List ℕ) → Among p ps → 0 < length ps
 some-among p [] i = absurd i
 some-among p (q ∷ qs) i = omega arith
-
--- each is greater than the one before, the first greater than b
-abbrev pub AscendsAbove : ℕ → List ℕ → Type 0
-AscendsAbove b [] = record {}
-AscendsAbove b (q ∷ qs) = (b < q) × AscendsAbove q qs
-
-abbrev pub Ascends : List ℕ → Type 0
-Ascends [] = record {}
-Ascends (p ∷ ps) = AscendsAbove p ps
 
 from : (f : ℕ → ℤ) (C : ℕ → Type 0) (r l top : ℕ) (qs : List ℕ) → Chosen f C r l → ((p : ℕ) → C p → p ≤ top) → AscendsAbove top qs → Chosen f (λ p. C p ⊎ Among p qs) (preferredFrom (better f) r qs) (preferredFrom (earlier f) l qs)
 unfolding preferredFrom

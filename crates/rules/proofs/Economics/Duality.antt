@@ -7,7 +7,8 @@ use native.Mathlib.Omega.{arith}
 use lib.IntN.{ℤ, pos}
 use lib.Signed.{_≤ℤ_}
 use Rattle.rules.specs.Numbers.{dividedUp}
-use Rattle.fields.proofs.Integers.{Is, is-pos, at-most}
+use Rattle.fields.specs.Integers.{Is}
+use Rattle.fields.proofs.Integers.{is-pos, at-most}
 use Rattle.rules.proofs.Economics.Rounding.{divided-at-most, divided-rises, divided-exact}
 
 -- ---- products of two orders

@@ -14,11 +14,12 @@ use Rattle.rules.specs.Problem.{totalCost, totalNet, Offer, Problem, uni
 use Rattle.rules.specs.Choice.{choice, leastTied, choices, lowered, selected}
 use Rattle.rules.specs.Lowering.{Saves, InFileOrder, MoreSlack}
 use Rattle.fields.proofs.Integers.{ints}
-use Rattle.rules.proofs.Lists.{Every}
+use Rattle.rules.specs.Lists.{Every}
 use Rattle.rules.proofs.Verdicts.{either-way}
 use Rattle.rules.proofs.Economics.Quantities.{priced-is, net-monotone}
 use Rattle.rules.proofs.Economics.Duality.{costs-least}
-use Rattle.rules.proofs.Economics.Allocations.{Available, Tied, tied-given, chosen, choices-tied, dual-is, relaxation}
+use Rattle.rules.specs.Offers.{Available}
+use Rattle.rules.proofs.Economics.Allocations.{Tied, tied-given, chosen, choices-tied, dual-is, relaxation}
 
 abbrev netOf : List Offer → List ℕ → ℕ
 netOf os ps = totalNet (map (λ o. o .unit) os) ps

@@ -11,7 +11,7 @@ use Rattle.rules.specs.Lists.{each, filter, all, greatest}
 use Rattle.rules.specs.Unit.{Unit, zones, permitted, runningOutput, strictlyInside, inRampWindow}
 use Rattle.rules.specs.Problem.{offer}
 use Rattle.rules.proofs.Verdicts.{and-true, eqb-is-true}
-use Rattle.rules.proofs.Economics.Chosen.{Among, Ascends, AscendsAbove}
+use Rattle.rules.specs.Offers.{Among, Ascends, AscendsAbove}
 
 -- ---- the elements of a list of which a test holds
 

@@ -1,4 +1,4 @@
--- The range of every quantity of a sound unit at an output up to its greatest, and that net grows with the output. This file alone looks at what cost, net and the linear factor are made of; others cite `cost-running`, `cost-standing`, `net-is` and `factor`.
+-- The range of every quantity of a sound unit at an output positivePart to its greatest, and that net grows with the output. This file alone looks at what cost, net and the linear factor are made of; others cite `cost-running`, `cost-standing`, `net-is` and `factor`.
 use mathlib.Core.Path.{_≡_, refl, _∙_}
 use Prim.Native.Nat.{ℕ, zero, suc, _+_, _*_, _-_, _≤_, _<_}
 use native.Mathlib.Nat.{add-zero, le-refl, mul-le-mul, mul-le-mul-right}
@@ -8,8 +8,9 @@ use borrow.Author.Tests.{ne-eqb}
 use Rattle.rules.specs.Numbers.{natural}
 use Rattle.rules.specs.Unit.{Unit, cost, linearFactor, net}
 use Rattle.rules.specs.Choice.{pricedCost}
-use Rattle.fields.proofs.Integers.{up, dn, Is, itself, is-pos, is-sub, is-minus, is-add, up-is, ≤-in, <-in}
-use Rattle.rules.proofs.Sound.{SoundLosses, Sound}
+use Rattle.fields.specs.Integers.{positivePart, negativePart, Is}
+use Rattle.fields.proofs.Integers.{itself, is-pos, is-sub, is-minus, is-add, up-is, ≤-in, <-in}
+use Rattle.rules.specs.Sound.{SoundLosses, Sound}
 
 pub cost-running : (u : Unit) (p : ℕ) → 1 ≤ p → cost u p ≡ u .c0 + u .c1 * p + u .c2 * p * p
 unfolding cost
@@ -30,17 +31,17 @@ pub record Factor (u : Unit) : Type 0 where
   pub greatest : linearFactor u ≤ 110000000
   pub above : 19999 * u .b < linearFactor u
 
-pub natural-up : (z : ℤ) → natural z ≡ up z
-unfolding natural up
+pub natural-up : (z : ℤ) → natural z ≡ positivePart z
+unfolding natural positivePart
 natural-up (pos n) = refl
 natural-up (negsuc n) = refl
 
-pub factor-up : (u : Unit) → linearFactor u ≡ 100000000 + dn (u .b1) - up (u .b1)
+pub factor-up : (u : Unit) → linearFactor u ≡ 100000000 + negativePart (u .b1) - positivePart (u .b1)
 unfolding linearFactor
 factor-up u = natural-up _ ∙ up-is (is-minus (is-pos 100000000) (itself (u .b1))) ∙ omega arith
 
 pub factor : {u : Unit} → SoundLosses u → Factor u
-unfolding up dn
+unfolding positivePart negativePart
 factor {u} s =
     let low = ≤-in (s .range .least) in
     let high = ≤-in (s .range .greatest) in
@@ -93,7 +94,7 @@ pub priced-is : (m : ℕ) (u : Unit) (p : ℕ) → Is (pricedCost m u p) (100000
 unfolding pricedCost
 priced-is m u p = is-sub (100000 * cost u p) (m * net u p)
 
--- net grows with the output: each step more, up to output 10,000, nets more
+-- net grows with the output: each step more, positivePart to output 10,000, nets more
 pub net-grows : {u : Unit} → SoundLosses u → (p j : ℕ) → p + j ≤ 10000 → net u p + j ≤ net u (p + j)
 unfolding net
 net-grows {u} s p zero h = rw (add-zero p) (omega arith)

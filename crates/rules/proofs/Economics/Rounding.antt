@@ -1,4 +1,4 @@
--- A quotient rounded up is the least integer whose multiple by the divisor is not below the dividend; its other laws follow from that.
+-- A quotient rounded positivePart is the least integer whose multiple by the divisor is not below the dividend; its other laws follow from that.
 use mathlib.Core.Path.{_≡_, refl, ap}
 use Prim.Native.Nat.{ℕ, zero, suc, _+_, _*_, _-_, _/_, _≤_, _<_}
 use native.Mathlib.Nat.{lt-mul-div-succ, mul-div-le, div-lt-iff-lt-mul, le-div-iff-mul-le, le-of-mul-le-mul-left}
@@ -6,28 +6,29 @@ use native.Mathlib.Omega.{arith}
 use lib.IntN.{ℤ, pos, negsuc, negℤ}
 use lib.Signed.{_≤ℤ_}
 use Rattle.rules.specs.Numbers.{dividedUp}
-use Rattle.fields.proofs.Integers.{up, dn, Is, up-is, dn-is, ints}
+use Rattle.fields.specs.Integers.{positivePart, negativePart, Is}
+use Rattle.fields.proofs.Integers.{up-is, dn-is, ints}
 
 -- the negative of a natural
 is-negative : (n : ℕ) → Is (negℤ (pos n)) 0 n
-unfolding up dn
+unfolding positivePart negativePart
 is-negative zero = record { is = refl }
 is-negative (suc n) = record { is = omega arith }
 
 module _ {k : ℕ} (positive : 0 < k) where
   -- the multiple of the quotient is not below the dividend
-  reaches : (z : ℤ) → up z + k * dn (dividedUp z k) ≤ k * up (dividedUp z k) + dn z
-  unfolding up dn dividedUp
+  reaches : (z : ℤ) → positivePart z + k * negativePart (dividedUp z k) ≤ k * positivePart (dividedUp z k) + negativePart z
+  unfolding positivePart negativePart dividedUp
   reaches (pos n) = omega (arith, lt-mul-div-succ (n + (k - 1)) positive)
   reaches (negsuc n) =
       let q = suc n / k in
-      let u : up (negℤ (pos q)) ≡ 0 = omega (arith, up-is (is-negative q)) in
-      let d : dn (negℤ (pos q)) ≡ q = omega (arith, dn-is (is-negative q)) in
+      let u : positivePart (negℤ (pos q)) ≡ 0 = omega (arith, up-is (is-negative q)) in
+      let d : negativePart (negℤ (pos q)) ≡ q = omega (arith, dn-is (is-negative q)) in
       rw (u, d) (omega (arith, mul-div-le (suc n) k))
 
   -- and no smaller integer has such a multiple
-  least : (z w : ℤ) → up z + k * dn w ≤ k * up w + dn z → dividedUp z k ≤ℤ w
-  unfolding up dn dividedUp
+  least : (z w : ℤ) → positivePart z + k * negativePart w ≤ k * positivePart w + negativePart z → dividedUp z k ≤ℤ w
+  unfolding positivePart negativePart dividedUp
   least (pos n) (pos v) h = omega (arith, ints, div-lt-iff-lt-mul {k = k} {x = n + (k - 1)} {y = suc v} positive .1 (omega arith))
   least (pos n) (negsuc v) h = absurd (omega arith)
   least (negsuc n) (pos v) h = omega (arith, ints, is-negative (suc n / k))
@@ -45,5 +46,5 @@ module _ {k : ℕ} (positive : 0 < k) where
   pub divided-exact : {z w : ℤ} {a b c d : ℕ} → Is z a b → Is w c d → a + k * d ≡ k * c + b → dividedUp z k ≡ w
   divided-exact {z} {w} p q e =
       let v = dividedUp z k in
-      let above : up w + dn v ≤ up v + dn w = le-of-mul-le-mul-left {k = k} (omega (arith, reaches z, ap (λ (n : ℕ). k * n) (q .is))) positive in
+      let above : positivePart w + negativePart v ≤ positivePart v + negativePart w = le-of-mul-le-mul-left {k = k} (omega (arith, reaches z, ap (λ (n : ℕ). k * n) (q .is))) positive in
       omega (arith, ints, divided-at-most p q (omega arith))

@@ -14,10 +14,12 @@ use Rattle.rules.specs.Problem.{totalCost, totalNet, Problem, unitsOf, t
 use Rattle.rules.specs.Choice.{selected, dualValue, floor, greatestFloor}
 use Rattle.rules.specs.Bisection.{Found, greatestOutputs, solvable, found, replyOf, solve}
 use Rattle.rules.specs.Promise.{Permitted, Covering, GreatestFloor, costLessGap, ReplyPromise}
-use Rattle.rules.proofs.Lists.{Every}
-use Rattle.fields.proofs.Integers.{up, dn, is-pos, is-minus, up-is, same, itself, ints}
-use Rattle.rules.proofs.Sound.{Sound}
-use Rattle.rules.proofs.Economics.Allocations.{Given, Proper, relaxation, greatest-given, greatest-net}
+use Rattle.rules.specs.Lists.{Every}
+use Rattle.fields.specs.Integers.{positivePart, negativePart}
+use Rattle.fields.proofs.Integers.{is-pos, is-minus, up-is, same, itself, ints}
+use Rattle.rules.specs.Sound.{Sound}
+use Rattle.rules.specs.Offers.{Given, Proper}
+use Rattle.rules.proofs.Economics.Allocations.{relaxation, greatest-given, greatest-net}
 use Rattle.rules.proofs.Economics.Lowering.{selected-tied}
 use Rattle.rules.proofs.Economics.Quantities.{natural-up}
 use Rattle.rules.proofs.Economics.Search.{Seen, Searched, evaluated-seen, searched, below-first}
@@ -27,8 +29,8 @@ use Rattle.rules.proofs.Economics.Solvable.{units-of-problem, given-all
 pub gap-exact : (n : ℕ) (z : ℤ) → z ≤ℤ pos n → pos n -ℤ pos (natural (pos n -ℤ z)) ≡ z
 gap-exact n z h =
     let d = is-minus (is-pos n) (itself z) in
-    let e : natural (pos n -ℤ z) ≡ n + dn z - (0 + up z) = natural-up (pos n -ℤ z) ∙ up-is d in
-    let b : up z + 0 ≤ n + dn z = omega (arith, ints, is-pos n) in
+    let e : natural (pos n -ℤ z) ≡ n + negativePart z - (0 + positivePart z) = natural-up (pos n -ℤ z) ∙ up-is d in
+    let b : positivePart z + 0 ≤ n + negativePart z = omega (arith, ints, is-pos n) in
     same (is-minus (is-pos n) (is-pos (natural (pos n -ℤ z)))) (itself z) (omega (arith, e))
 
 -- ---- of a problem

@@ -7,17 +7,18 @@ use native.Mathlib.Omega.{arith}
 use lib.Dec.{ltb}
 use lib.ListN.{length}
 use borrow.Author.Tests.{leb-true, leb-false, ltb-true, lt-ltb}
-use Rattle.rules.specs.Lists.{all}
+use Rattle.rules.specs.Lists.{all, Every}
 use Rattle.rules.specs.Unit.{Unit, permitted}
 use Rattle.rules.specs.Layout.{Case}
 use Rattle.rules.specs.Problem.{allocation, totalNet, covers, Offer, Problem, unitsOf, target, offer, problemOf}
 use Rattle.rules.specs.Bisection.{greatestOutputs, solvable}
-use Rattle.rules.proofs.Lists.{Every, every-map, every-more, every-both, all-every}
+use Rattle.rules.proofs.Lists.{every-map, every-more, every-both, all-every}
 use Rattle.rules.proofs.Verdicts.{and-true}
-use Rattle.rules.proofs.Sound.{Sound}
+use Rattle.rules.specs.Sound.{Sound}
 use Rattle.rules.proofs.Economics.Chosen.{some-among}
 use Rattle.rules.proofs.Economics.Outputs.{permitted-greatest, outputs-ascend, offered-permitted, permitted-offered}
-use Rattle.rules.proofs.Economics.Allocations.{Given, Proper, Available, greatest-net}
+use Rattle.rules.specs.Offers.{Given, Proper, Available}
+use Rattle.rules.proofs.Economics.Allocations.{greatest-net}
 
 -- ---- step 1
 

@@ -5,8 +5,8 @@ use native.Mathlib.Omega.{arith}
 use lib.ListN.{length}
 use Rattle.rules.specs.Unit.{Unit}
 use Rattle.rules.specs.Problem.{totalCost, totalNet}
-use Rattle.rules.proofs.Lists.{Every}
-use Rattle.rules.proofs.Sound.{Sound}
+use Rattle.rules.specs.Lists.{Every}
+use Rattle.rules.specs.Sound.{Sound}
 use Rattle.rules.proofs.Economics.Quantities.{cost-range, net-range}
 
 pub total-cost-range : (us : List Unit) (ps : List ℕ) → Every Sound us → Every (λ p. p ≤ 10000) ps → totalCost us ps ≤ 201000000000 * length us

@@ -10,14 +10,15 @@ use lib.ListN.{length, getD, take, drop, drop-of-length-le}
 use lib.Seq.{take-all, length-take-le, getD-take}
 use borrow.Author.Tests.{lt-ltb, le-ltb, eq-eqb, ne-eqb}
 use Rattle.fields.specs.Field.{Bytes, field, bytesOfEach}
-use Rattle.rules.specs.Lists.{each}
+use Rattle.rules.specs.Lists.{each, Every}
 use Rattle.rules.specs.Unit.{Unit}
 use Rattle.rules.specs.Layout.{edgesStart, edgeOfBody, unitOfBody, bodyLength, bodyOfUnit}
 use Rattle.rules.specs.Refusal.{legalSize, bodyVerdict}
 use Rattle.rules.specs.declared.Verdict.the-variants.{Accepted}
-use Rattle.rules.proofs.Lists.{Every, every-from, each-same, each-take, take-each}
+use Rattle.rules.proofs.Lists.{every-from, each-same, each-take, take-each}
 use Rattle.rules.proofs.Verdicts.{either-way, accepts}
-use Rattle.rules.proofs.Sound.{Sound, sound, sound-accepted, edge-small}
+use Rattle.rules.specs.Sound.{Sound}
+use Rattle.rules.proofs.Sound.{sound, sound-accepted, edge-small}
 use Rattle.rules.proofs.Encoding.Pieces.{Piece, Fits, spell, place, piece, read-piece, read-behind, length-spell, spell-pieces, read-each, length-each-bytes, each-again}
 use Rattle.rules.proofs.Encoding.Rows.{InRow}
 

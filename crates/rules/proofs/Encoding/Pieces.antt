@@ -8,8 +8,8 @@ use lib.ListN.{length, getD, take, drop, length-append, length-drop, take-append
 use lib.Seq.{take-at, drop-append-add, drop-drop, length-take-le}
 use Rattle.fields.specs.Field.{Bytes, bytes, field, bytesOfEach}
 use Rattle.fields.proofs.Width.{number-bytes, length-bytes, bytes-number, bytes-part}
-use Rattle.rules.specs.Lists.{each, sum}
-use Rattle.rules.proofs.Lists.{Every, each-same}
+use Rattle.rules.specs.Lists.{each, sum, Every}
+use Rattle.rules.proofs.Lists.{each-same}
 
 -- ---- one field
 

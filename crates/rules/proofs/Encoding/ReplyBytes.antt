@@ -6,11 +6,11 @@ use native.Mathlib.Omega.{arith}
 use lib.ListN.{length, getD, drop, length-append}
 use Rattle.fields.specs.Field.{field, bytesOfEach}
 use Rattle.fields.proofs.Width.{length-bytes}
-use Rattle.rules.specs.Lists.{each, over}
+use Rattle.rules.specs.Lists.{each, over, Every}
 use Rattle.rules.specs.Bisection.{Reply}
 use Rattle.rules.specs.Calls.{replyBytes}
 use Rattle.rules.specs.Promise.{replyIn}
-use Rattle.rules.proofs.Lists.{Every, each-same, each-getD}
+use Rattle.rules.proofs.Lists.{each-same, each-getD}
 use Rattle.rules.proofs.Encoding.Pieces.{Piece, Fits, spell, read-piece, read-behind, read-each, length-each-bytes}
 
 -- every stated number fits its field

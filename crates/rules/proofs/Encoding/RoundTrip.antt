@@ -8,13 +8,13 @@ use lib.ListN.{length, getD, take, drop, length-append, take-append-drop}
 use lib.Seq.{take-at, drop-at, drop-drop, drop-length}
 use Rattle.fields.specs.Field.{Bytes, field, bytes}
 use Rattle.fields.proofs.Width.{length-bytes}
-use Rattle.rules.specs.Lists.{each}
+use Rattle.rules.specs.Lists.{each, Every}
 use Rattle.rules.specs.Unit.{Unit}
 use Rattle.rules.specs.Layout.{unitOfBody, bodyLength, bodyOfUnit, edition, count, demand, offset, size, body, unitAt, caseOf, contentsFrom, bodiesOf, bodiesLength, fileOf}
 use Rattle.rules.specs.Refusal.{start, fileVerdict}
 use Rattle.rules.specs.Calls.{fileLength}
 use Rattle.rules.specs.declared.Verdict.the-variants.{Accepted}
-use Rattle.rules.proofs.Lists.{Every, every-at, length-each, each-same, each-from, each-getD}
+use Rattle.rules.proofs.Lists.{every-at, length-each, each-same, each-from, each-getD}
 use Rattle.rules.proofs.Encoding.Pieces.{Piece, Fits, spell, pieces, read-piece, read-behind, spell-pieces}
 use Rattle.rules.proofs.Encoding.Body.{Packable, legal, length-body, unit-body-unit, body-accepted}
 use Rattle.rules.proofs.Encoding.SoundFile.{SoundFile, sound-file, start-next, size-at, body-at}

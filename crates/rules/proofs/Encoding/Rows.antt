@@ -6,10 +6,10 @@ use mathlib.Core.List.{List, [], _∷_, _++_}
 use lib.IntN.{pos}
 use lib.ListN.{length, getD, take, drop, length-append, length-drop, take-append-drop}
 use lib.Seq.{take-all, take-at, drop-at, drop-drop, length-take-le, take-add}
-use Rattle.rules.specs.Lists.{each}
+use Rattle.rules.specs.Lists.{each, Every}
 use Rattle.rules.specs.Unit.{Unit}
 use Rattle.rules.specs.Layout.{unitOfRow, rowOfUnit, rowAt, unitInRow, unitsOfRows, rowsOfUnits}
-use Rattle.rules.proofs.Lists.{Every, each-same, each-take, every-each}
+use Rattle.rules.proofs.Lists.{each-same, each-take, every-each}
 
 -- a unit that a row can hold: it has eight edges, and no linear loss
 pub record InRow (u : Unit) : Type 0 where

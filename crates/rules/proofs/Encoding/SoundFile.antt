@@ -13,9 +13,10 @@ use Rattle.fields.proofs.Width.{bytes-part}
 use Rattle.rules.specs.Layout.{edgesStart, bodyLength, bodyOfUnit, edition, count, demand, offset, size, body, unitAt, caseOf}
 use Rattle.rules.specs.Refusal.{start, legalSize, entryFits, editionVerdict, headVerdict, contentsVerdict, bodyVerdict, fileVerdict}
 use Rattle.rules.specs.declared.Verdict.the-variants.{Accepted}
-use Rattle.rules.proofs.Lists.{Every, every-each, all-each}
+use Rattle.rules.specs.Lists.{Every}
+use Rattle.rules.proofs.Lists.{every-each, all-each}
 use Rattle.rules.proofs.Verdicts.{in-order-each, accepts}
-use Rattle.rules.proofs.Sound.{Sound}
+use Rattle.rules.specs.Sound.{Sound}
 use Rattle.rules.proofs.Encoding.Body.{Packable, SoundBody, edges-start, sound-body, body-packable, body-unit-body}
 
 -- ---- place by place

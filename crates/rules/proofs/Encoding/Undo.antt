@@ -6,7 +6,7 @@ use mathlib.Core.List.{List, map}
 use lib.ListN.{length, take, drop}
 use lib.Seq.{take-at}
 use Rattle.fields.specs.Field.{Bytes}
-use Rattle.rules.specs.Lists.{over}
+use Rattle.rules.specs.Lists.{over, Every}
 use Rattle.rules.specs.Unit.{Unit}
 use Rattle.rules.specs.Layout.{Case, edition, count, demand, unitAt, caseOf, unitsOfRows, rowsOfUnits, fileOf}
 use Rattle.rules.specs.Refusal.{inOrder, unitVerdict, fileVerdict}
@@ -16,7 +16,7 @@ use Rattle.rules.specs.declared.Verdict.{Verdict}
 use Rattle.rules.specs.declared.Verdict.the-variants.{Accepted, Refused}
 use Rattle.rules.specs.declared.Packed.{Packed}
 use Rattle.rules.specs.declared.Unpacked.{Unpacked}
-use Rattle.rules.proofs.Lists.{Every, every-both, every-more, every-map, length-each}
+use Rattle.rules.proofs.Lists.{every-both, every-more, every-map, length-each}
 use Rattle.rules.proofs.Verdicts.{in-order-accepted, accepts}
 use Rattle.rules.proofs.Sound.{sound, sound-accepted}
 use Rattle.rules.proofs.Encoding.Rows.{InRow, rows-units-rows, units-rows-units, length-rows, rows-in-row}

@@ -13,7 +13,7 @@ use Rattle.rules.specs.Lists.{all, over}
 use Rattle.rules.specs.Numbers.{dividedUp, greatestAt}
 use Rattle.rules.specs.Problem.{problemIn}
 use Rattle.rules.specs.Bisection.{found}
-use Rattle.evaluation.specs.Step1.{First, FindsFirst}
+use Rattle.evaluation.specs.Contracts.{First, FindsFirst}
 use Rattle.bisection.proofs.Starting.{holding}
 use Rattle.sensitivity.specs.Floors.{dualFor, floorFor}
 use Rattle.sensitivity.proofs.Outcomes.{ValidDemands, valid-demands, refused-demands, refused-short, refused-case, written}

@@ -10,8 +10,8 @@ use mir.Val.{SFits, toZ, ofZ}
 use mir.Facts.{toZ-ofZ}
 use denote.Ref.{now}
 use borrow.Author.Needs.{needs}
-use Rattle.bisection.specs.Search.{multiplierAt, dualAt}
-use Rattle.sensitivity.specs.Held.{PairInRange}
+use Rattle.bisection.specs.Contracts.{multiplierAt, dualAt}
+use Rattle.sensitivity.specs.Contracts.{PairInRange}
 use Rattle.sensitivity.proofs.Computed.{product-fits, sum-fits, value-read, Reached, reached-starts, reached-more}
 use Rattle.sensitivity.proofs.greatest_dual.Statement.{statement}
 use Rattle.sensitivity.proofs.greatest_dual.Tie as tie

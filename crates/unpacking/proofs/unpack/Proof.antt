@@ -6,7 +6,7 @@ use denote.Ref.{now}
 use Rattle.rules.specs.declared.Verdict.the-variants.{Accepted}
 use Rattle.rules.specs.Layout.{count}
 use Rattle.rules.specs.Refusal.{editionVerdict, fileVerdict}
-use Rattle.casefile.specs.Required.{HeadRead}
+use Rattle.casefile.specs.Contracts.{HeadRead}
 use Rattle.casefile.proofs.File.{accepted-head}
 use Rattle.unpacking.proofs.Unpacked.{unpacked-short, unpacked-edition, unpacked-refused, unpacked-read}
 use Rattle.unpacking.proofs.unpack.Statement.{statement}

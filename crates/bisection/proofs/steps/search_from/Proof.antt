@@ -13,7 +13,7 @@ use denote.Ref.{now}
 use borrow.Author.Needs.{needs}
 use Rattle.rules.specs.Numbers.{dividedUp}
 use Rattle.rules.specs.Problem.{Problem, target}
-use Rattle.bisection.specs.Search.{Holding, recorded, Reached}
+use Rattle.bisection.specs.Contracts.{Holding, recorded, Reached}
 use Rattle.bisection.proofs.Selecting.{evaluable, dualable, lowerable, selects, selects-lowered, lowered-covers}
 use Rattle.bisection.proofs.Tracing.{recorded-length}
 use Rattle.bisection.proofs.Searching.{Open, opened, reached-starts, stops-at-zero, stops-equal, goes-below, stops-at-top, goes-above, adjacent, stopped, spent}

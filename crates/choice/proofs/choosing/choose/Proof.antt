@@ -8,12 +8,13 @@ use mir.Val.{toZ, ofZ}
 use mir.Facts.{toZ-ofZ}
 use denote.Ref.{now}
 use borrow.Author.Needs.{needs}
-use Rattle.fields.proofs.Integers.{Is, itself, is-pos, is-same, same, when-lt, when-ge, under}
-use Rattle.rules.proofs.Economics.Chosen.{Chosen}
+use Rattle.fields.specs.Integers.{Is}
+use Rattle.fields.proofs.Integers.{itself, is-pos, is-same, same, when-lt, when-ge, under}
+use Rattle.rules.specs.Offers.{Chosen}
 use Rattle.regions.specs.Regions.{high}
 use Rattle.site.specs.Site.{Within}
 use Rattle.curve.specs.Curve.{pricedAt}
-use Rattle.choice.specs.Choosing.{Running}
+use Rattle.choice.specs.Contracts.{Running}
 use Rattle.choice.proofs.Signed.{zero-bits, other-bits}
 use Rattle.curve.proofs.Heights.{priced-running, priced-standing}
 use Rattle.choice.proofs.Regions.{small, from-lowest, runs, running-chosen, only-stands, behind-standing, stands-better, runs-better, stands-or-runs}

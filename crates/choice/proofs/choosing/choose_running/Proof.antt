@@ -11,7 +11,8 @@ use mir.Val.{SFits, toZ, ofZ}
 use denote.Ref.{now}
 use borrow.Author.Needs.{needs}
 use borrow.Author.Tests.{eqb-true, eqb-false}
-use Rattle.fields.proofs.Integers.{Is, up, dn, back, cast, is-minus, fits, kept, not-negative, size-is, when-lt, when-ge}
+use Rattle.fields.specs.Integers.{Is, positivePart, negativePart}
+use Rattle.fields.proofs.Integers.{back, cast, is-minus, fits, kept, not-negative, size-is, when-lt, when-ge}
 use Rattle.regions.specs.Regions.{low, high}
 use Rattle.choice.proofs.Signed.{is-quotient, is-remainder, zero-bits, other-bits}
 use Rattle.curve.proofs.Heights.{vertex-valley, vertex-from, vertex-to, vertex-level, vertex-falls}
@@ -29,10 +30,10 @@ module _ (c : tie.Start) where
   a = c .args .c .square
 
   abbrev s : ℕ
-  s = up (c .args .c .linear)
+  s = positivePart (c .args .c .linear)
 
   abbrev t : ℕ
-  t = dn (c .args .c .linear)
+  t = negativePart (c .args .c .linear)
 
   abbrev lowest-is : ℕ
   lowest-is = low (now (c .args .ends)) (c .args .first)

@@ -6,7 +6,8 @@ use lib.IntN.{_-ℤ_}
 use mir.Syntax.{w64}
 use mir.Val.{toZ}
 use borrow.Author.Needs.{needs}
-use Rattle.fields.proofs.Integers.{Is, is-minus, cast, fits, kept}
+use Rattle.fields.specs.Integers.{Is}
+use Rattle.fields.proofs.Integers.{is-minus, cast, fits, kept}
 use Rattle.evaluation.proofs.totals.dual_of.Statement.{statement}
 use Rattle.evaluation.proofs.totals.dual_of.Tie as tie
 

@@ -1,23 +1,24 @@
--- `evaluation::totals::floor_of` meets its contract: the quotient is rounded toward 0, so up for what is not above 0, and one more than the quotient of x − 1 for what is.
+-- `evaluation::totals::floor_of` meets its contract: the quotient is rounded toward 0, so positivePart for what is not above 0, and one more than the quotient of x − 1 for what is.
 use Prim.Native.Nat.{_+_, _<_, _≤_}
 use native.Mathlib.Omega.{arith}
 use lib.Dec.{lit<}
 use lib.IntN.{pos, _-ℤ_}
 use mir.Syntax.{w64}
 use mir.Val.{toZ, ofZ}
-use Rattle.fields.proofs.Integers.{Is, up, dn, back, is-pos, is-minus, is-add, is-quot, fits, kept, same, one-zero, fits-up, fits-dn, when-le, when-gt}
+use Rattle.fields.specs.Integers.{Is, positivePart, negativePart}
+use Rattle.fields.proofs.Integers.{back, is-pos, is-minus, is-add, is-quot, fits, kept, same, one-zero, fits-up, fits-dn, when-le, when-gt}
 use Rattle.evaluation.proofs.Floor.{floor-is}
 use Rattle.evaluation.proofs.totals.floor_of.Statement.{statement}
 use Rattle.evaluation.proofs.totals.floor_of.Tie as tie
 
 -- what the test tells; and x − 1, as it is read
-below : (c : tie.Then1) → up (c .before .args .dual) ≤ dn (c .before .args .dual)
+below : (c : tie.Then1) → positivePart (c .before .args .dual) ≤ negativePart (c .before .args .dual)
 below c = omega (arith, when-le (back (c .before .fits .dual)) (is-pos 0) (c .if1 .taken))
 
-above : (c : tie.Else1) → dn (c .before .args .dual) < up (c .before .args .dual)
+above : (c : tie.Else1) → negativePart (c .before .args .dual) < positivePart (c .before .args .dual)
 above c = omega (arith, when-gt (back (c .before .fits .dual)) (is-pos 0) (c .if1 .left))
 
-less : (c : tie.Else1) → Is (toZ w64 (ofZ w64 (toZ w64 (ofZ w64 (c .before .args .dual)) -ℤ pos 1))) (up (c .before .args .dual) + 0) (dn (c .before .args .dual) + 1)
+less : (c : tie.Else1) → Is (toZ w64 (ofZ w64 (toZ w64 (ofZ w64 (c .before .args .dual)) -ℤ pos 1))) (positivePart (c .before .args .dual) + 0) (negativePart (c .before .args .dual) + 1)
 less c = kept (is-minus (back (c .before .fits .dual)) (is-pos 1)) (omega (arith, fits-up (c .before .fits .dual))) (omega (arith, above c))
 
 div-result : tie.Need-div-result

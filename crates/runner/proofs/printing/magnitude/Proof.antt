@@ -5,7 +5,8 @@ use Prim.Native.Nat.{_+_, _<_}
 use lib.IntN.{ℤ, negsuc, _-ℤ_}
 use mir.Syntax.{w64}
 use mir.Val.{toZ, ofZ}
-use Rattle.fields.proofs.Integers.{Is, up, dn, back, is-pos, is-negsuc, is-minus, fits, fits-up, fits-dn, kept, not-negative, size-is, when-lt, when-ge}
+use Rattle.fields.specs.Integers.{Is, positivePart, negativePart}
+use Rattle.fields.proofs.Integers.{back, is-pos, is-negsuc, is-minus, fits, fits-up, fits-dn, kept, not-negative, size-is, when-lt, when-ge}
 use Rattle.runner.proofs.printing.magnitude.Statement.{statement}
 use Rattle.runner.proofs.printing.magnitude.Tie as tie
 
@@ -17,13 +18,13 @@ module _ (c : tie.Then1) where
   abbrev below : ℤ
   below = negsuc 0 -ℤ toZ w64 (ofZ w64 n)
 
-  below-is : Is below (0 + dn n) (1 + up n)
+  below-is : Is below (0 + negativePart n) (1 + positivePart n)
   below-is = is-minus (is-negsuc 0) (back (c .before .fits .n))
 
-  negative : up n < dn n
+  negative : positivePart n < negativePart n
   negative = omega (arith, when-lt (back (c .before .fits .n)) (is-pos 0) (c .if1 .taken))
 
-  below-read : Is (toZ w64 (ofZ w64 below)) (0 + dn n) (1 + up n)
+  below-read : Is (toZ w64 (ofZ w64 below)) (0 + negativePart n) (1 + positivePart n)
   below-read = kept below-is (omega (arith, fits-dn (c .before .fits .n))) (omega (arith, fits-up (c .before .fits .n)))
 
 sub-result : tie.Need-sub-result

@@ -7,7 +7,8 @@ use mir.Syntax.{w32, w64}
 use mir.Val.{SFits}
 use mir.Facts.{toZ-ofZ}
 use borrow.Author.Needs.{needs}
-use Rattle.fields.proofs.Integers.{up, dn, Is, itself, is-pos, is-minus, up-is, fits, fits-up, fits-dn, not-negative, size-is, widened-fits, widened, ints}
+use Rattle.fields.specs.Integers.{positivePart, negativePart, Is}
+use Rattle.fields.proofs.Integers.{itself, is-pos, is-minus, up-is, fits, fits-up, fits-dn, not-negative, size-is, widened-fits, widened, ints}
 use Rattle.rules.specs.Unit.{linearFactor}
 use Rattle.rules.proofs.Economics.Quantities.{natural-up}
 use Rattle.site.proofs.decoding.linear_factor.Statement.{statement}
@@ -20,10 +21,10 @@ module _ (c : tie.Start) where
   narrow : SFits w32 z
   narrow = search needs
 
-  below : up z ≤ 10000000 + dn z
+  below : positivePart z ≤ 10000000 + negativePart z
   below = omega (arith, ints, c .pre .losses .range .greatest, is-pos 10000000)
 
-  difference : Is (pos 100000000 -ℤ z) (100000000 + dn z) (0 + up z)
+  difference : Is (pos 100000000 -ℤ z) (100000000 + negativePart z) (0 + positivePart z)
   difference = is-minus (is-pos 100000000) (itself z)
 
   difference-fits : SFits w64 (pos 100000000 -ℤ z)

@@ -1,19 +1,20 @@
 -- What the search holds: for every problem that the arrays of a site hold, the best allocation, the greatest floor and the number of the evaluations that the steps of rules 11.3 to 11.11 make; and a trace of these, each multiplier with its dual value (rule 20.3).
 use Prim.Native.Nat.{ℕ, _+_, _*_, _^_, _≤_}
 use mathlib.Core.Path.{_≡_}
-use mathlib.Core.Bool.{cond}
+use mathlib.Core.Bool.{cond, true}
 use mathlib.Core.List.{List, [], _∷_}
 use mathlib.Core.Logic.{_⊎_}
 use lib.Dec.{ltb}
 use lib.IntN.{ℤ, pos}
 use lib.ListN.{length, getD, drop, replicate, set}
-use lib.Signed.{leZ}
+use lib.Signed.{leZ, _≤ℤ_}
+use Rattle.rules.specs.Lists.{True}
 use Rattle.rules.specs.Problem.{Problem, unitsOf, totalNet, target}
 use Rattle.rules.specs.Choice.{selected, dualValue, floor, greatestFloor}
-use Rattle.rules.specs.Bisection.{Found, greatestOutputs, found}
+use Rattle.rules.specs.Bisection.{Found, greatestOutputs, found, solvable}
 use Rattle.site.specs.Site.{HoldsProblem}
 use Rattle.evaluation.specs.declared.Sums.{Sums}
-use Rattle.evaluation.specs.Totals.{HoldsOutputs, Sized}
+use Rattle.evaluation.specs.Contracts.{HoldsOutputs, Sized}
 use Rattle.bisection.specs.declared.steps.Allocation as code-allocation
 use Rattle.bisection.specs.declared.steps.Found as code
 use Rattle.bisection.specs.declared.steps.SearchState as code-state
@@ -69,7 +70,7 @@ recorded trace k m d = cond (ltb (2 * k + 1) (length trace)) (set (set trace (2 
 
 -- it has the evaluated multipliers, given the last one first, in the order of evaluation
 abbrev pub Traces : Problem → List ℕ → List ℤ → Type 0
-Traces q [] trace = Unit {0}
+Traces q [] trace = True
 Traces q (m ∷ ms) trace = (multiplierAt trace (length ms) ≡ pos m) × (dualAt trace (length ms) ≡ dualValue m q) × Traces q ms trace
 
 -- what a search found, and its trace, if that has room for 18 pairs
@@ -134,3 +135,19 @@ pub record Searches (H : Problem → Type 0) (n : ℕ) (first : code-allocation.
   pub sized : Sized n (sumsOf (r .best))
   pub few : r .evaluations ≤ 18
   pub held : (q : Problem) → H q → HoldsOutputs q (greatestOutputs q) (first .outputs) (sumsOf first) → HoldsTraced q (found q) r trace
+
+-- ==== What dispatch and judging know before they search: the arrays hold a problem that step 1 accepts, with its first best; and a cost and a floor of which `distance` takes the difference.
+
+-- the arrays hold a problem that step 1 accepts, and its first best
+pub record Solving (coefficients ends ranges : List ℕ) (n t : ℕ) (first : code-allocation.Allocation) : Type 0 where
+  pub problem : Problem
+  pub holds : Holding coefficients ends ranges n t problem
+  pub solves : solvable problem ≡ true
+  pub sized : Sized n (sumsOf first)
+  pub greatest : HoldsOutputs problem (greatestOutputs problem) (first .outputs) (sumsOf first)
+
+-- a cost in range, and a floor from 0 to it
+pub record Measurable (cost : ℕ) (floor : ℤ) : Type 0 where
+  pub range : cost ≤ 6432000000000
+  pub above : floor ≤ℤ pos cost
+  pub positive : pos 0 ≤ℤ floor

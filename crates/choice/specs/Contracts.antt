@@ -5,7 +5,7 @@ use mathlib.Core.List.{List}
 use mathlib.Core.Path.{_≡_}
 use lib.IntN.{ℤ}
 use lib.Signed.{_<ℤ_}
-use Rattle.rules.proofs.Economics.Chosen.{Chosen}
+use Rattle.rules.specs.Offers.{Chosen}
 use Rattle.regions.specs.Regions.{low, high}
 use Rattle.site.specs.Site.{Regions}
 use Rattle.curve.specs.Curve.{height, InRange, Valley}

@@ -4,21 +4,20 @@ use mathlib.Core.Path.{_≡_}
 use mathlib.Core.List.{List, map}
 use lib.IntN.{ℤ, pos, _+ℤ_, _*ℤ_}
 use lib.ListN.{length}
-use Rattle.rules.specs.Lists.{over}
+use Rattle.rules.specs.Lists.{over, Every}
 use Rattle.rules.specs.Numbers.{dividedUp, greatestAt}
 use Rattle.rules.specs.Problem.{Problem, target}
 use Rattle.rules.specs.Choice.{dualValue}
-use Rattle.rules.proofs.Lists.{Every}
-use Rattle.fields.proofs.Integers.{up, dn}
-use Rattle.bisection.specs.Search.{multiplierAt, dualAt, Traces}
+use Rattle.fields.specs.Integers.{positivePart, negativePart}
+use Rattle.bisection.specs.Contracts.{multiplierAt, dualAt, Traces}
 use Rattle.sensitivity.specs.Floors.{dualFor}
 
 -- a multiplier and a dual value in range
 pub record PairInRange (m d : ℤ) : Type 0 where
-  pub multiplier : up m ≤ 65536
-  pub natural : dn m ≡ 0
-  pub above : up d ≤ 3000000000000000000
-  pub below : dn d ≤ 3000000000000000000
+  pub multiplier : positivePart m ≤ 65536
+  pub natural : negativePart m ≡ 0
+  pub above : positivePart d ≤ 3000000000000000000
+  pub below : negativePart d ≤ 3000000000000000000
 
 -- a trace of so many pairs, at least one
 pub record Traced (trace : List ℤ) (count : ℕ) : Type 0 where
@@ -29,8 +28,8 @@ pub record Traced (trace : List ℤ) (count : ℕ) : Type 0 where
 
 -- a difference of two nets that cover demands
 pub record Shifted (shift : ℤ) : Type 0 where
-  pub above : up shift ≤ 32000000000000
-  pub below : dn shift ≤ 32000000000000
+  pub above : positivePart shift ≤ 32000000000000
+  pub below : negativePart shift ≤ 32000000000000
 
 -- the dual value of m carried by a difference of nets
 abbrev pub carried : Problem → ℤ → ℕ → ℤ

@@ -5,11 +5,10 @@ use mathlib.Core.List.{List}
 use lib.ListN.{length}
 use Rattle.rules.specs.Problem.{Problem, target}
 use Rattle.rules.specs.Bisection.{Found, greatestOutputs, replyOf, solve}
-use Rattle.evaluation.specs.Totals.{HoldsOutputs}
+use Rattle.evaluation.specs.Contracts.{HoldsOutputs}
 use Rattle.bisection.specs.declared.steps.Allocation as code-allocation
 use Rattle.bisection.specs.declared.steps.Found as code-found
-use Rattle.bisection.specs.Search.{sumsOf, Holding, HoldsFound}
-use Rattle.bisection.specs.Solving.{Measurable}
+use Rattle.bisection.specs.Contracts.{sumsOf, Holding, HoldsFound, Measurable}
 use Rattle.solving.specs.declared.Reply as code-reply
 use Rattle.solving.specs.ReplyHeld.{replyHeld}
 

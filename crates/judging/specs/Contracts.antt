@@ -9,11 +9,11 @@ use Rattle.rules.specs.Numbers.{natural}
 use Rattle.rules.specs.Problem.{totalCost, totalNet, Problem, unitsOf}
 use Rattle.rules.specs.Choice.{greatestFloor}
 use Rattle.rules.specs.Bisection.{greatestOutputs, found}
-use Rattle.rules.proofs.Economics.Allocations.{Given}
+use Rattle.rules.specs.Offers.{Given}
 use Rattle.site.specs.Site.{Within, HoldsProblem}
-use Rattle.evaluation.specs.Totals.{Held, HoldsOutputs, Sized}
+use Rattle.evaluation.specs.Contracts.{Held, HoldsOutputs, Sized}
 use Rattle.bisection.specs.declared.steps.Allocation as code-allocation
-use Rattle.bisection.specs.Search.{sumsOf, Holding}
+use Rattle.bisection.specs.Contracts.{sumsOf, Holding}
 use Rattle.judging.specs.declared.Judged.{Judged}
 use Rattle.judging.specs.declared.Summed.{Summed}
 

@@ -3,7 +3,7 @@ use Prim.Native.Nat.{ℕ, _≤_}
 use mathlib.Core.List.{List}
 use lib.IntN.{ℤ}
 use lib.ListN.{length}
-use Rattle.judging.specs.Held.{SmallAnswer}
+use Rattle.judging.specs.Contracts.{SmallAnswer}
 
 -- room for four answers, and numbers that signed 64 bits hold
 pub record Answerable (answers : List ℤ) (c s d : ℕ) : Type 0 where

@@ -8,8 +8,8 @@ use Rattle.rules.specs.Layout.{edition, count}
 use Rattle.rules.specs.Refusal.{headVerdict, contentsVerdict}
 use Rattle.rules.specs.Problem.{Offer, offer}
 use Rattle.rules.specs.declared.Verdict.{Verdict}
-use Rattle.rules.proofs.Sound.{Sound}
-use Rattle.regions.specs.Writing.{KeptOutside}
+use Rattle.rules.specs.Sound.{Sound}
+use Rattle.regions.specs.Contracts.{KeptOutside}
 use Rattle.site.specs.Site.{first, last, Coefficients, HoldsOffer}
 
 -- ---- one unit
