@@ -1,4 +1,5 @@
-//! Writes the runner's two files: `write STDIN STDOUT`. The format is in README.md.
+//! Writes the runner's two files: `write STDIN STDOUT`. The format is in README.md. Prints how many calls each kind of case gave, how often each
+//! call was answered, and refused by each number, and how often each branch was reached.
 
 use second_solver::branches::Reached;
 use second_solver::calls::{bytes_of, Call};
@@ -15,15 +16,15 @@ const BUFFER_NUMBERS: usize = 640;
 const FILL_BYTE: u8 = 0xA5;
 const FILL_NUMBER: u32 = 0xA5A5_A5A5;
 const FILL_FLOOR: i64 = 0xA5A5_A5A5_A5A5_A5A5_u64 as i64;
-const KINDS: usize = 96;
 const MOST_ALLOCATIONS: usize = 200_000;
 const MOST_OFFERS: usize = 400;
 
-/// What the runner reads and what it has to print.
+/// What the runner reads and what it has to print, and what was counted on the way.
 #[derive(Default)]
 struct Files {
     records: Vec<Vec<u8>>,
     lines: Vec<String>,
+    kinds: Vec<(&'static str, usize)>,
     tally: Tally,
     reached: Reached,
     promises: usize,
@@ -43,13 +44,13 @@ fn main() {
     files.reached.assert_complete();
     assert_every_exception(&files.lines);
     std::fs::write(input_path, input(&files.records)).expect(input_path);
-    std::fs::write(output_path, output(&files)).expect(output_path);
+    std::fs::write(output_path, output(&files.lines)).expect(output_path);
     println!("{} vectors as stated", vectors);
     let (dispatches, judgements, floors) = (files.promises, files.judgements.checked, files.floors.checked);
     let by_brute_force =
         format!("{} dispatches, {} judgements and {} floors checked by brute force", dispatches, judgements, floors);
     println!("{} calls, {}", files.tally.total(), by_brute_force);
-    for line in files.reached.lines() {
+    for line in files.kind_lines().iter().chain(&files.tally.lines()).chain(&files.reached.lines()) {
         println!("{}", line);
     }
 }
@@ -57,21 +58,16 @@ fn main() {
 fn make_files() -> Files {
     let mut files = Files::default();
     let mut random = Random::new(SEED);
-    let kinds = kinds();
-    let mut counts = Vec::new();
-    for (index, kind) in kinds.iter().enumerate() {
+    for (index, kind) in kinds().iter().enumerate() {
         let calls: Vec<Call> = (0..kind.times).flat_map(|_| (kind.make)(&mut random)).collect();
+        assert!(!calls.is_empty(), "no call of {}", kind.name);
         let first = files.lines.len();
         for call in &calls {
-            files.add_call(index, call);
+            files.add_call(call);
         }
         let dispatched = files.lines[first..].iter().any(|line| line.starts_with("dispatch ") && !line.contains("refused"));
         assert!(dispatched || index >= accepted_kinds().len(), "no case of {} is dispatched", kind.name);
-        counts.push(calls.len());
-    }
-    for (index, kind) in kinds.iter().enumerate() {
-        files.records.push(record(0, index, 0, 0, kind.name.as_bytes()));
-        files.lines.push(format!("kind {} {}", kind.name, counts[index]));
+        files.kinds.push((kind.name, calls.len()));
     }
     files
 }
@@ -91,14 +87,13 @@ fn input(records: &[Vec<u8>]) -> Vec<u8> {
     bytes
 }
 
-fn output(files: &Files) -> String {
-    files.lines.iter().chain(&files.tally.lines()).map(|line| format!("{}\n", line)).collect()
+fn output(lines: &[String]) -> String {
+    lines.iter().map(|line| format!("{}\n", line)).collect()
 }
 
-fn record(what: u16, kind: usize, number: u32, room: usize, content: &[u8]) -> Vec<u8> {
-    assert!(kind < KINDS && content.len() <= 4_096);
-    let mut bytes = what.to_be_bytes().to_vec();
-    bytes.extend((kind as u16).to_be_bytes());
+fn record(call: u16, number: u32, room: usize, content: &[u8]) -> Vec<u8> {
+    assert!(content.len() <= 4_096);
+    let mut bytes = call.to_be_bytes().to_vec();
     bytes.extend(number.to_be_bytes());
     bytes.extend((room as u16).to_be_bytes());
     bytes.extend((content.len() as u16).to_be_bytes());
@@ -107,44 +102,49 @@ fn record(what: u16, kind: usize, number: u32, room: usize, content: &[u8]) -> V
 }
 
 impl Files {
-    fn add_call(&mut self, kind: usize, call: &Call) {
+    fn add_call(&mut self, call: &Call) {
         let (record, line, refused) = match call {
             Call::Dispatch { file, room } => {
                 self.check_promise(file);
                 let (line, refused) = dispatch(file, *room);
-                (record(1, kind, 0, *room, file), line, refused)
+                (record(1, 0, *room, file), line, refused)
             }
             Call::Price { file, multiplier } => {
                 let (line, refused) = price(file, *multiplier);
-                (record(2, kind, *multiplier, 0, file), line, refused)
+                (record(2, *multiplier, 0, file), line, refused)
             }
             Call::Pack { demand, rows, room } => {
                 let (line, refused) = pack(*demand, rows, *room);
-                (record(3, kind, *demand, *room, &bytes_of(rows)), line, refused)
+                (record(3, *demand, *room, &bytes_of(rows)), line, refused)
             }
             Call::Unpack { file, room } => {
                 let (line, refused) = unpack(file, *room);
-                (record(4, kind, 0, *room, file), line, refused)
+                (record(4, 0, *room, file), line, refused)
             }
             Call::View { reply, request, room } => {
                 let (line, refused) = view(reply, request, *room);
-                (record(5, kind, reply.len() as u32, *room, &[&reply[..], request].concat()), line, refused)
+                (record(5, reply.len() as u32, *room, &[&reply[..], request].concat()), line, refused)
             }
             Call::Judge { file, outputs } => {
                 self.check_judgement(file, outputs);
                 let (line, refused) = judge(file, outputs);
-                (record(6, kind, file.len() as u32, 0, &[&file[..], &bytes_of(outputs)].concat()), line, refused)
+                (record(6, file.len() as u32, 0, &[&file[..], &bytes_of(outputs)].concat()), line, refused)
             }
             Call::Floors { file, demands, room } => {
                 self.check_floors(file, demands, *room);
                 let (line, refused) = floors(file, demands, *room);
-                (record(7, kind, file.len() as u32, *room, &[&file[..], &bytes_of(demands)].concat()), line, refused)
+                (record(7, file.len() as u32, *room, &[&file[..], &bytes_of(demands)].concat()), line, refused)
             }
         };
         self.records.push(record);
         self.lines.push(line);
         self.tally.count(call.index(), refused);
         self.reached.count(call, refused);
+    }
+
+    /// One line to a kind, with the count of its calls.
+    fn kind_lines(&self) -> Vec<String> {
+        self.kinds.iter().map(|(name, count)| format!("kind {} {}", name, count)).collect()
     }
 
     fn check_promise(&mut self, file: &[u8]) {

@@ -1,7 +1,5 @@
-// Each public call on one case: its answer on one line, with whether the rest of the lent buffer kept its contents, and as a
-// number: the refusal's, or 0.
+// Each public call on one case: its answer on one line, with whether the rest of the lent buffer kept its contents.
 ghost use Prim.Native.Nat.{_≤_};
-ghost use mathlib.Core.Path.{_≡_};
 ghost use lib.ListN.{length};
 use crate::printing::decimals;
 use crate::printing::hexadecimal;
@@ -26,10 +24,15 @@ use rules::Refusal;
 use rules::Unpacked;
 use sensitivity::Floored;
 
-fn print_refusal(r: Refusal) -> u32 {
-    let n = rules::number(r);
-    number(b"refused ", n as u64);
-    n
+fn print_refusal(r: Refusal) {
+    number(b"refused ", rules::number(r) as u64);
+}
+
+// The refusal of a call that writes to a buffer, and whether the buffer kept its contents.
+fn print_refused(r: Refusal, kept: bool) {
+    print_refusal(r);
+    word(b" ");
+    rest(kept);
 }
 
 // The bytes that a call wrote, and the rest of its buffer.
@@ -41,24 +44,14 @@ fn print_written(bytes: &[u8], length: usize) {
     rest(bytes_kept(bytes, length));
 }
 
-fn refused_bytes(r: Refusal, bytes: &[u8]) -> u32 {
-    let n = print_refusal(r);
-    word(b" ");
-    rest(bytes_kept(bytes, 0));
-    n
-}
-
 // The reply's buffer is lent as far as there is room.
-fn dispatch(file: &[u8], room: usize, bytes: &mut [u8]) -> u32 {
+fn dispatch(file: &[u8], room: usize, bytes: &mut [u8]) {
     let lent = least(room, bytes.len());
     fill_bytes(bytes);
     let answer = dispatching::dispatch(file, &mut bytes[..lent]);
     match answer {
-        Dispatched::Refused(r) => refused_bytes(r, bytes),
-        Dispatched::Replied(length) => {
-            print_written(bytes, length);
-            0
-        }
+        Dispatched::Refused(r) => print_refused(r, bytes_kept(bytes, 0)),
+        Dispatched::Replied(length) => print_written(bytes, length),
     }
 }
 
@@ -71,18 +64,14 @@ fn print_priced(dual: i64, covers: bool) {
     }
 }
 
-fn price(file: &[u8], m: u32) -> u32 {
+fn price(file: &[u8], m: u32) {
     let answer = pricing::price(file, m);
     match answer {
         Priced::Refused(r) => {
-            let n = print_refusal(r);
+            print_refusal(r);
             word(b"\n");
-            n
         }
-        Priced::Valued { dual, covers } => {
-            print_priced(dual, covers);
-            0
-        }
+        Priced::Valued { dual, covers } => print_priced(dual, covers),
     }
 }
 
@@ -100,17 +89,14 @@ fn read_rows(given: &[u8], rows: &mut [u32]) -> usize
 }
 
 // The file's buffer is lent as far as there is room.
-fn pack(demand: u32, given: &[u8], room: usize, bytes: &mut [u8], numbers: &mut [u32]) -> u32 {
+fn pack(demand: u32, given: &[u8], room: usize, bytes: &mut [u8], numbers: &mut [u32]) {
     let lent = least(room, bytes.len());
     let count = read_rows(given, numbers);
     fill_bytes(bytes);
     let answer = packing::pack(demand, &numbers[..count], &mut bytes[..lent]);
     match answer {
-        Packed::Refused(r) => refused_bytes(r, bytes),
-        Packed::Written(length) => {
-            print_written(bytes, length);
-            0
-        }
+        Packed::Refused(r) => print_refused(r, bytes_kept(bytes, 0)),
+        Packed::Written(length) => print_written(bytes, length),
     }
 }
 
@@ -124,36 +110,25 @@ fn print_unpacked(demand: u32, count: u32, rows: &[u32]) {
 }
 
 // The rows' list is lent as far as there is room.
-fn unpack(file: &[u8], room: usize, numbers: &mut [u32]) -> u32 {
+fn unpack(file: &[u8], room: usize, numbers: &mut [u32]) {
     let lent = least(room, numbers.len());
     fill_numbers(numbers);
     let answer = unpacking::unpack(file, &mut numbers[..lent]);
     match answer {
-        Unpacked::Refused(r) => {
-            let n = print_refusal(r);
-            word(b" ");
-            rest(numbers_kept(numbers, 0));
-            n
-        }
-        Unpacked::Read { demand, count } => {
-            print_unpacked(demand, count, numbers);
-            0
-        }
+        Unpacked::Refused(r) => print_refused(r, numbers_kept(numbers, 0)),
+        Unpacked::Read { demand, count } => print_unpacked(demand, count, numbers),
     }
 }
 
 // The bytes before `at` are the reply, the others the request. The answer's buffer is lent as far as there is room.
-fn view(given: &[u8], at: usize, room: usize, bytes: &mut [u8]) -> u32 {
+fn view(given: &[u8], at: usize, room: usize, bytes: &mut [u8]) {
     let end = least(at, given.len());
     let lent = least(room, bytes.len());
     fill_bytes(bytes);
     let answer = modbus::view(&given[..end], &given[end..], &mut bytes[..lent]);
     match answer {
-        Viewed::Refused(r) => refused_bytes(r, bytes),
-        Viewed::Answered(length) => {
-            print_written(bytes, length);
-            0
-        }
+        Viewed::Refused(r) => print_refused(r, bytes_kept(bytes, 0)),
+        Viewed::Answered(length) => print_written(bytes, length),
     }
 }
 
@@ -167,28 +142,21 @@ fn print_judged(cost: u64, surplus: u64, distance: u64) {
 }
 
 // The first `at` bytes are the file, the others the outputs, 4 bytes each.
-fn judge(given: &[u8], at: usize, numbers: &mut [u32]) -> u32 {
+fn judge(given: &[u8], at: usize, numbers: &mut [u32]) {
     let end = least(at, given.len());
     let count = read_rows(&given[end..], numbers);
     let answer = judging::judge(&given[..end], &numbers[..count]);
     match answer {
         Judged::Refused(r) => {
-            let n = print_refusal(r);
+            print_refusal(r);
             word(b"\n");
-            n
         }
-        Judged::NotAccepted => {
-            word(b"not accepted\n");
-            0
-        }
+        Judged::NotAccepted => word(b"not accepted\n"),
         Judged::Accepted {
             cost,
             surplus,
             distance,
-        } => {
-            print_judged(cost, surplus, distance);
-            0
-        }
+        } => print_judged(cost, surplus, distance),
     }
 }
 
@@ -201,27 +169,19 @@ fn print_floors(integers: &[i64], count: usize) {
 }
 
 // The first `at` bytes are the file, the others the demands, 4 bytes each. The floors' list is lent as far as there is room.
-fn floors(given: &[u8], at: usize, room: usize, numbers: &mut [u32], integers: &mut [i64]) -> u32 {
+fn floors(given: &[u8], at: usize, room: usize, numbers: &mut [u32], integers: &mut [i64]) {
     let end = least(at, given.len());
     let count = read_rows(&given[end..], numbers);
     let lent = least(room, integers.len());
     fill_integers(integers);
     let answer = sensitivity::floors(&given[..end], &numbers[..count], &mut integers[..lent]);
     match answer {
-        Floored::Refused(r) => {
-            let n = print_refusal(r);
-            word(b" ");
-            rest(integers_kept(integers, 0));
-            n
-        }
-        Floored::Written(written) => {
-            print_floors(integers, written);
-            0
-        }
+        Floored::Refused(r) => print_refused(r, integers_kept(integers, 0)),
+        Floored::Written(written) => print_floors(integers, written),
     }
 }
 
-// The call that the record names, on what it gives.
+// The call that the record names, on what it gives: its name and its answer.
 pub fn run(
     call: u16,
     argument: u32,
@@ -230,23 +190,29 @@ pub fn run(
     bytes: &mut [u8],
     numbers: &mut [u32],
     integers: &mut [i64],
-) -> u32 {
+) {
     if call == 1 {
-        dispatch(given, room, bytes)
+        word(b"dispatch ");
+        dispatch(given, room, bytes);
     } else if call == 2 {
-        price(given, argument)
+        word(b"price ");
+        price(given, argument);
     } else if call == 3 {
-        pack(argument, given, room, bytes, numbers)
+        word(b"pack ");
+        pack(argument, given, room, bytes, numbers);
     } else if call == 4 {
-        unpack(given, room, numbers)
+        word(b"unpack ");
+        unpack(given, room, numbers);
     } else if call == 5 {
-        view(given, argument as usize, room, bytes)
+        word(b"view ");
+        view(given, argument as usize, room, bytes);
     } else if call == 6 {
-        judge(given, argument as usize, numbers)
+        word(b"judge ");
+        judge(given, argument as usize, numbers);
     } else if call == 7 {
-        floors(given, argument as usize, room, numbers, integers)
+        word(b"floors ");
+        floors(given, argument as usize, room, numbers, integers);
     } else {
-        word(b"call\n");
-        0
+        word(b"unknown call\n");
     }
 }

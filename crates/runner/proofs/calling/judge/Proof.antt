@@ -5,12 +5,6 @@ use borrow.Author.Needs.{needs}
 use Rattle.runner.proofs.calling.judge.Statement.{statement}
 use Rattle.runner.proofs.calling.judge.Tie as tie
 
-slice-aggregate-judge : tie.Need-slice-aggregate-judge
-slice-aggregate-judge c = simp length-take (omega arith)
-
-slice-aggregate-judge-2 : tie.Need-slice-aggregate-judge-2
-slice-aggregate-judge-2 c = simp length-take (omega arith)
-
 pub judge-spec : {M : Type 1} → statement M
 judge-spec =
     tie.close
@@ -20,9 +14,9 @@ judge-spec =
     (λ c. search needs)
     (λ c. search needs)
     (λ c κs. search needs)
-    slice-aggregate-judge
+    (λ c. simp length-take (omega arith))
     (λ c. search needs)
-    slice-aggregate-judge-2
+    (λ c. simp length-take (omega arith))
     (λ c κs. search needs)
     (λ c. search needs)
     (λ c κs. search needs)
