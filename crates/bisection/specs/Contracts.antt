@@ -136,7 +136,7 @@ pub record Searches (H : Problem → Type 0) (n : ℕ) (first : code-allocation.
   pub few : r .evaluations ≤ 18
   pub held : (q : Problem) → H q → HoldsOutputs q (greatestOutputs q) (first .outputs) (sumsOf first) → HoldsTraced q (found q) r trace
 
--- ==== What dispatch and judging know before they search: the arrays hold a problem that step 1 accepts, with its first best; and a cost and a floor of which `distance` takes the difference.
+-- ---- what dispatch and judging know before they search, and a cost and a floor of which `distance` takes the difference
 
 -- the arrays hold a problem that step 1 accepts, and its first best
 pub record Solving (coefficients ends ranges : List ℕ) (n t : ℕ) (first : code-allocation.Allocation) : Type 0 where

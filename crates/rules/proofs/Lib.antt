@@ -1,6 +1,7 @@
 pub mod Lists
 pub mod Verdicts
 pub mod Each
+pub mod Demands
 pub mod Sound
 pub mod Zones
 pub mod Encoding

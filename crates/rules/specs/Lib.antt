@@ -10,6 +10,7 @@ pub mod Choices
 pub mod Bisection
 pub mod Stages
 pub mod Calls
+pub mod Demands
 pub mod Undoing
 pub mod Losses
 pub mod Sound

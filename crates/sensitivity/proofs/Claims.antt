@@ -12,6 +12,7 @@ use lib.Signed.{_≤ℤ_}
 use borrow.Author.Tests.{leb-true, le-ltb}
 use Rattle.fields.proofs.Integers.{ints}
 use Rattle.rules.specs.Lists.{all, over, Every}
+use Rattle.rules.specs.Demands.{demandsInvalid}
 use Rattle.rules.specs.Numbers.{dividedUp, greatestAt}
 use Rattle.rules.specs.Layout.{caseOf}
 use Rattle.rules.specs.Refusal.{_refuses_, _then_}
@@ -123,7 +124,7 @@ wrote : (file demands : List ℕ) (floors : List ℤ) (n : ℕ) → floored file
 unfolding floored floorsVerdict
 wrote file demands floors n e =
     let (verdict, count, after) = ended (floorsVerdict file demands floors) file demands floors n e in
-    let valid = (ltb 96 (length demands) || not (all (λ d. leb d 320000) demands)) refuses DemandsInvalid in
+    let valid = demandsInvalid demands refuses DemandsInvalid in
     let room = ltb (length floors) (length demands) refuses FloorsTooShort in
     let rest = then-accepted valid (room then caseVerdict file) .0 verdict .1 in
     record { accepted = then-accepted room (caseVerdict file) .0 rest .1; count = count; after = after }

@@ -1,4 +1,3 @@
-pub mod Demands
 pub mod Carried
 pub mod Computed
 pub mod Writing

@@ -2,46 +2,31 @@
 use Prim.Native.Nat.{ℕ, _≤_, _<_}
 use native.Mathlib.Omega.{arith}
 use mathlib.Core.Path.{_≡_, refl, sym, ap, _∙_}
-use mathlib.Core.Bool.{Bool, true, false, not, _||_}
+use mathlib.Core.Bool.{true, false}
 use mathlib.Core.List.{List, map}
-use lib.Dec.{ltb, leb}
+use lib.Dec.{ltb}
 use lib.IntN.{ℤ}
 use lib.ListN.{length}
-use borrow.Author.Tests.{lt-ltb, le-ltb, ltb-false, leb-true}
-use Rattle.rules.specs.Lists.{all, over, Every}
+use borrow.Author.Tests.{lt-ltb, le-ltb}
+use Rattle.rules.specs.Lists.{over}
+use Rattle.rules.specs.Demands.{demandsInvalid}
 use Rattle.rules.specs.Refusal.{numberOf, _refuses_, _then_}
 use Rattle.rules.specs.Problem.{problemIn}
 use Rattle.rules.specs.Calls.{caseVerdict}
 use Rattle.rules.specs.declared.Refusal.{Refusal}
 use Rattle.rules.specs.declared.Refusal.the-variants.{BufferTooShort, DemandsInvalid, FloorsTooShort}
 use Rattle.rules.specs.declared.Verdict.{Verdict}
-use Rattle.rules.proofs.Lists.{every-more, all-every}
-use Rattle.rules.proofs.Verdicts.{or-false, not-is-false, refuses-accepted, then-accepted}
+use Rattle.rules.proofs.Verdicts.{refuses-accepted, then-accepted}
+use Rattle.rules.proofs.Demands.{valid-demands}
 use Rattle.sensitivity.specs.declared.Floored.{Floored}
 use Rattle.sensitivity.specs.Floors.{FloorsResult, floorFor, floorsVerdict, floorsEnd, floored, numberOfFloored, answersOfFloored, panelFloored}
 
--- what is asked of the demands
-abbrev invalid : List ℕ → Bool
-invalid demands = ltb 96 (length demands) || not (all (λ d. leb d 320000) demands)
-
-pub record ValidDemands (demands : List ℕ) : Type 0 where
-  pub few : length demands ≤ 96
-  pub small : Every (λ d. d ≤ 320000) demands
-
-pub valid-demands : (demands : List ℕ) → invalid demands ≡ false → ValidDemands demands
-valid-demands demands e =
-    let (few, small) = or-false (ltb 96 (length demands)) (not (all (λ d. leb d 320000) demands)) .0 e in
-    record {
-      few = ltb-false 96 (length demands) few;
-      small = every-more (λ d. leb d 320000 ≡ true) (λ d. d ≤ 320000) (λ d h. leb-true d 320000 h) demands (all-every (λ d. leb d 320000) demands .0 (not-is-false (all (λ d. leb d 320000) demands) .0 small));
-    }
-
 module _ (file demands : List ℕ) (floors : List ℤ) where
-  pub refused-demands : invalid demands ≡ true → floored file demands floors ≡ record { answer = Floored.Refused DemandsInvalid; floors = floors }
+  pub refused-demands : demandsInvalid demands ≡ true → floored file demands floors ≡ record { answer = Floored.Refused DemandsInvalid; floors = floors }
   unfolding floored floorsVerdict floorsEnd
   refused-demands e = rw e
 
-  module _ (valid : invalid demands ≡ false) where
+  module _ (valid : demandsInvalid demands ≡ false) where
     pub refused-short : length floors < length demands → floored file demands floors ≡ record { answer = Floored.Refused FloorsTooShort; floors = floors }
     unfolding floored floorsVerdict floorsEnd
     refused-short h = rw (valid, lt-ltb (length floors) (length demands) h)
@@ -68,8 +53,8 @@ module _ (file demands : List ℕ) (floors : List ℤ) where
   unfolding floored floorsVerdict
   written-few {n = n} e f =
       let (v, count, _) = ended (floorsVerdict file demands floors) file demands floors n (ap (λ (r : FloorsResult). r .answer) e ∙ f) in
-      let valid = then-accepted (invalid demands refuses DemandsInvalid) (ltb (length floors) (length demands) refuses FloorsTooShort then caseVerdict file) .0 v .0 in
-      rw count (valid-demands demands (refuses-accepted (invalid demands) DemandsInvalid .0 valid) .few)
+      let valid = then-accepted (demandsInvalid demands refuses DemandsInvalid) (ltb (length floors) (length demands) refuses FloorsTooShort then caseVerdict file) .0 v .0 in
+      rw count (valid-demands demands (refuses-accepted (demandsInvalid demands) DemandsInvalid .0 valid) .few)
 
   pub floors-short : (answers : List ℤ) → length answers < 1 → {n : ℕ} → n ≡ numberOf BufferTooShort → panelFloored file demands floors answers ≡ record { number = n; floors = floors; answers = answers }
   unfolding panelFloored floorsEnd

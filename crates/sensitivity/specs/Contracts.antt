@@ -4,7 +4,8 @@ use mathlib.Core.Path.{_≡_}
 use mathlib.Core.List.{List, map}
 use lib.IntN.{ℤ, pos, _+ℤ_, _*ℤ_}
 use lib.ListN.{length}
-use Rattle.rules.specs.Lists.{over, Every}
+use Rattle.rules.specs.Lists.{over}
+use Rattle.rules.specs.Demands.{ValidDemands}
 use Rattle.rules.specs.Numbers.{dividedUp, greatestAt}
 use Rattle.rules.specs.Problem.{Problem, target}
 use Rattle.rules.specs.Choice.{dualValue}
@@ -39,10 +40,9 @@ pub record GreatestDual (trace : List ℤ) (count : ℕ) (shift r : ℤ) : Type 
   pub greatest : (q : Problem) (ms : List ℕ) → Traces q ms trace → length ms ≡ count → r ≡ greatestAt (carried q shift) ms
 
 -- a list of demands for which there is room
-pub record Writable (demands : List ℕ) (floors : List ℤ) (t : ℕ) : Type 0 where
+pub record FloorsWritable (demands : List ℕ) (floors : List ℤ) (t : ℕ) : Type 0 where
   pub target : t ≤ 32000000000000
-  pub small : Every (λ d. d ≤ 320000) demands
-  pub few : length demands ≤ 96
+  pub valid : ValidDemands demands
   pub room : length demands ≤ length floors
 
 pub record FloorsWritten (trace : List ℤ) (count t : ℕ) (demands : List ℕ) (before after : List ℤ) : Type 0 where

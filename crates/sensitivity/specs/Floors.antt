@@ -1,11 +1,11 @@
 -- Rules 20.1 to 20.4 and 20.8 of docs/SPECIFICATION.md: floors for other demands than the case's, from the evaluations of one search (sensitivity of the dual bound to the demand). What the call answers and writes, on every input.
 use Prim.Native.Nat.{ℕ, _*_}
-use mathlib.Core.Bool.{not, _||_}
 use mathlib.Core.List.{List, [], _∷_, map}
-use lib.Dec.{ltb, leb}
+use lib.Dec.{ltb}
 use lib.IntN.{ℤ, pos, _+ℤ_, _-ℤ_, _*ℤ_}
 use lib.ListN.{length}
-use Rattle.rules.specs.Lists.{all, over}
+use Rattle.rules.specs.Lists.{over}
+use Rattle.rules.specs.Demands.{demandsInvalid}
 use Rattle.rules.specs.Numbers.{dividedUp, greatestAt}
 use Rattle.rules.specs.Refusal.{numberOf, _refuses_, _then_}
 use Rattle.rules.specs.Problem.{Problem, problemIn}
@@ -28,7 +28,7 @@ floorFor q d = greatestAt (λ m. dividedUp (dualFor m q d) 100000) (found q .eva
 
 unfoldable pub floorsVerdict : List ℕ → List ℕ → List ℤ → Verdict
 floorsVerdict file demands floors =
-    (ltb 96 (length demands) || not (all (λ d. leb d 320000) demands)) refuses DemandsInvalid
+    demandsInvalid demands refuses DemandsInvalid
     then ltb (length floors) (length demands) refuses FloorsTooShort
     then caseVerdict file
 

@@ -1,14 +1,11 @@
 // Floors for other demands than the case's: how far a forecast error moves the bill, at least (section 20 of docs/SPECIFICATION.md).
 // One search gives the multipliers and their dual values; each demand then takes one look at these.
 ghost use mathlib.Core.Path.{_≡_};
-ghost use mathlib.Core.Bool.{not, _||_};
 ghost use Prim.Native.Nat.{_*_, _≤_};
-ghost use lib.Dec.{ltb, leb};
 ghost use lib.IntN.{pos, _-ℤ_};
 ghost use lib.ListN.{length};
-ghost use Rattle.rules.specs.Lists.{all};
 ghost use Rattle.sensitivity.specs.Floors.{floored};
-ghost use Rattle.sensitivity.specs.Contracts.{Shifted, Traced, GreatestDual, Writable, FloorsWritten};
+ghost use Rattle.sensitivity.specs.Contracts.{Shifted, Traced, GreatestDual, FloorsWritable, FloorsWritten};
 use bisection::Allocation;
 use evaluation::FirstBest;
 use rules::Refusal;
@@ -17,23 +14,6 @@ use rules::Refusal;
 pub enum Floored {
     Written(usize),
     Refused(Refusal),
-}
-
-// Whether there are more than 96 demands, or one above 320,000.
-fn demands_invalid(demands: &[u32]) -> bool
-    ensures { λ r. ⌜ r ≡ (ltb 96 (length (now (demands .entry))) || not (all (λ d. leb d 320000) (now (demands .entry)))) ⌝ }
-{
-    if demands.len() > 96 {
-        return true;
-    }
-    let mut i = 0;
-    while i < demands.len() {
-        if demands[i] > 320000 {
-            return true;
-        }
-        i += 1;
-    }
-    false
 }
 
 // By how much the net that covers demand `d` is above `target`.
@@ -61,7 +41,7 @@ fn greatest_dual(trace: &[i64], count: usize, shift: i64) -> i64
 
 // Writes the floor for each demand to the start of `floors`.
 fn write_floors(trace: &[i64], count: usize, target: u64, demands: &[u32], floors: &mut [i64])
-    requires { ⌜ Traced (now trace) count × Writable (now demands) (now floors) target ⌝ }
+    requires { ⌜ Traced (now trace) count × FloorsWritable (now demands) (now floors) target ⌝ }
     ensures { λ _. ⌜ FloorsWritten (now (trace .entry)) count target (now (demands .entry)) (now (floors .entry)) (now (floors .exit)) ⌝ }
 {
     let mut j = 0;
@@ -75,7 +55,7 @@ fn write_floors(trace: &[i64], count: usize, target: u64, demands: &[u32], floor
 pub fn floors(file: &[u8], demands: &[u32], floors: &mut [i64]) -> Floored
     ensures { λ r. ⌜ floored (now (file .entry)) (now (demands .entry)) (now (floors .entry)) ≡ record { answer = r; floors = now (floors .exit) } ⌝ }
 {
-    if demands_invalid(demands) {
+    if demands::demands_invalid(demands) {
         return Floored::Refused(Refusal::DemandsInvalid);
     }
     if floors.len() < demands.len() {

@@ -15,7 +15,7 @@ use Rattle.site.specs.Site.{first, last, Coefficients, HoldsOffer}
 -- ---- one unit
 
 -- u may be written as unit i
-pub record Writable (u : Unit) (i : ℕ) : Type 0 where
+pub record UnitWritable (u : Unit) (i : ℕ) : Type 0 where
   pub sound : Sound u
   pub place : i < 32
 

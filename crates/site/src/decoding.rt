@@ -6,7 +6,7 @@ ghost use Rattle.rules.specs.Unit.{linearFactor};
 ghost use Rattle.rules.specs.Sound.{Sound};
 ghost use Rattle.unit.specs.UnitHeld.{unitHeld};
 ghost use Rattle.site.specs.Site.{Decodes};
-ghost use Rattle.site.specs.Contracts.{Writable, CoefficientsWritten, RangeWritten, UnitWritten, BodiesNamed};
+ghost use Rattle.site.specs.Contracts.{UnitWritable, CoefficientsWritten, RangeWritten, UnitWritten, BodiesNamed};
 use crate::Decoded;
 use rules::Refusal;
 use rules::Verdict;
@@ -51,7 +51,7 @@ pub fn write_unit(
     ends: &mut [u16; 384],
     ranges: &mut [u8; 64],
 ) -> bool
-    requires { ⌜ Writable (unitHeld u) i ⌝ }
+    requires { ⌜ UnitWritable (unitHeld u) i ⌝ }
     ensures { λ r. ⌜ UnitWritten (unitHeld u) i (now (coefficients .entry)) (now (ends .entry)) (now (ranges .entry)) (now (coefficients .exit)) (now (ends .exit)) (now (ranges .exit)) r ⌝ }
 {
     write_coefficients(u, i, coefficients);

@@ -2,21 +2,22 @@
 use Prim.Native.Nat.{ℕ, _≤_}
 use native.Mathlib.Omega.{arith}
 use mathlib.Core.Path.{_≡_, refl, sym, subst, _∙_}
-use mathlib.Core.Bool.{false, not, _||_}
-use lib.Dec.{ltb, leb}
+use mathlib.Core.Bool.{false}
 use lib.ListN.{length}
 use denote.Ref.{now}
 use borrow.Author.Needs.{needs}
 use mathlib.Core.List.{List, map}
 use lib.IntN.{ℤ}
-use Rattle.rules.specs.Lists.{all, over}
+use Rattle.rules.specs.Lists.{over}
+use Rattle.rules.specs.Demands.{demandsInvalid}
+use Rattle.rules.proofs.Demands.{valid-demands}
 use Rattle.rules.specs.Numbers.{dividedUp, greatestAt}
 use Rattle.rules.specs.Problem.{problemIn}
 use Rattle.rules.specs.Bisection.{found}
 use Rattle.evaluation.specs.Contracts.{First, FindsFirst}
 use Rattle.bisection.proofs.Starting.{holding}
 use Rattle.sensitivity.specs.Floors.{dualFor, floorFor}
-use Rattle.sensitivity.proofs.Outcomes.{ValidDemands, valid-demands, refused-demands, refused-short, refused-case, written}
+use Rattle.sensitivity.proofs.Outcomes.{refused-demands, refused-short, refused-case, written}
 use Rattle.sensitivity.proofs.Tracing.{search-traces, counted, small-target, traced}
 use Rattle.sensitivity.proofs.floors.Statement.{statement}
 use Rattle.sensitivity.proofs.floors.Tie as tie
@@ -35,7 +36,7 @@ returns c =
 abbrev asked : tie.Else1 → tie.Start
 asked c = c .before .before .before .before
 
-valid : (c : tie.Else1) → let demands = now (asked c .args .demands) in (ltb 96 (length demands) || not (all (λ d. leb d 320000) demands)) ≡ false
+valid : (c : tie.Else1) → let demands = now (asked c .args .demands) in demandsInvalid demands ≡ false
 valid c = sym (c .before .demands-invalid .ensures) ∙ c .if1 .left
 
 returns-2 : tie.Need-returns-2
@@ -114,7 +115,7 @@ write-floors-requires c κs =
     let room = roomy x in
     let v = valid-demands (now (entry (d k) .args .demands)) (valid (passed (d k) .before)) in (
       traced f (s .search .ensures) room,
-      record { target = small-target f (s .search .ensures) room; small = v .small; few = v .few; room = omega (arith, passed (d k) .if2 .left) },
+      record { target = small-target f (s .search .ensures) room; valid = v; room = omega (arith, passed (d k) .if2 .left) },
     )
 
 same-length : tie.Need-same-length

@@ -31,13 +31,13 @@ abbrev entry : tie.In-loop Inv-loop μ-loop → tie.Start Inv-loop μ-loop
 entry t = t .before .before .before
 
 few : (t : tie.In-loop Inv-loop μ-loop) → t .before .loop .j < 96
-few t = omega (arith, entry t .pre .1 .few, t .loop-test .taken)
+few t = omega (arith, entry t .pre .1 .valid .few, t .loop-test .taken)
 
 abbrev demand : tie.In-loop Inv-loop μ-loop → ℕ
 demand t = getD (now (entry t .args .demands)) (t .before .loop .j) 0
 
 small : (t : tie.In-loop Inv-loop μ-loop) → demand t ≤ 320000
-small t = every-at (λ d. d ≤ 320000) (now (entry t .args .demands)) (t .before .loop .j) 0 (entry t .pre .1 .small) (t .loop-test .taken)
+small t = every-at (λ d. d ≤ 320000) (now (entry t .args .demands)) (t .before .loop .j) 0 (entry t .pre .1 .valid .small) (t .loop-test .taken)
 
 mul-shift : tie.Need-mul-shift Inv-loop μ-loop
 mul-shift c = omega (arith, few c)

@@ -1,4 +1,4 @@
--- `sensitivity::demands_invalid` meets its contract: the loop keeps that no demand so far is above the limit (`Demands`).
+-- `demands::demands_invalid` meets its contract: the loop keeps that no demand so far is above the limit (`Passing`).
 use Prim.Native.Nat.{ℕ, _-_}
 use native.Mathlib.Omega.{arith}
 use mathlib.Core.Path.{_≡_}
@@ -7,9 +7,9 @@ use lib.Dec.{leb}
 use lib.ListN.{length, getD}
 use denote.Ref.{now}
 use borrow.Author.Tests.{lt-ltb, le-ltb, le-leb, lt-leb}
-use Rattle.sensitivity.proofs.Demands.{Passing, passing-starts, passing-ends, passing-fails, passing-more}
-use Rattle.sensitivity.proofs.demands_invalid.Statement.{statement}
-use Rattle.sensitivity.proofs.demands_invalid.Tie as tie
+use Rattle.demands.proofs.Passing.{Passing, passing-starts, passing-ends, passing-fails, passing-more}
+use Rattle.demands.proofs.demands_invalid.Statement.{statement}
+use Rattle.demands.proofs.demands_invalid.Tie as tie
 
 abbrev small : ℕ → Bool
 small d = leb d 320000
