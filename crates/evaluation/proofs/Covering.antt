@@ -1,5 +1,5 @@
 -- Step 1 on the arrays: every unit of a problem that they hold has an output, so that it is solvable exactly if the greatest outputs cover; and so of the file that they were decoded from. And what pricing answers, case by case.
-use mathlib.Core.Path.{_≡_, refl, ap₂}
+use mathlib.Core.Path.{_≡_, refl, ap₂, subst}
 use mathlib.Core.Bool.{Bool, true, false}
 use mathlib.Core.List.{List}
 use Prim.Native.Nat.{ℕ, _+_, _*_, _≤_, _<_}
@@ -54,6 +54,14 @@ pub of-file : {file coefficients ends ranges : List ℕ} {n t : ℕ} (s : Site f
 unfolding caseVerdict
 of-file {file} s outputs (FirstBest.Found n′ t′ c w) k = rw (k .count, k .demanded) (record { accepted = rw (s .accepted, k .solves (problemIn file) (s .holds) (s .demanded)); site = s; allocates = k .allocates })
 of-file {file} s outputs (FirstBest.Refused r) k = rw (k .refusal, s .accepted, k .unsolved (problemIn file) (s .holds) (s .demanded))
+
+-- as the match of an entry tells it
+module _ (file coefficients ends ranges outputs : List ℕ) {r : FirstBest} where
+  pub first-found : {n t c w : ℕ} → r ≡ FirstBest.Found n t c w → FindsFirst file coefficients ends ranges outputs r → First file coefficients ends ranges outputs n t c w
+  first-found e k = subst (FindsFirst file coefficients ends ranges outputs) e k
+
+  pub first-refused : {x : Refusal} → r ≡ FirstBest.Refused x → FindsFirst file coefficients ends ranges outputs r → caseVerdict file ≡ Refused x
+  first-refused e k = subst (FindsFirst file coefficients ends ranges outputs) e k
 
 -- ---- what pricing answers
 

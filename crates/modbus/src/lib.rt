@@ -71,18 +71,6 @@ fn write_exception(answer: &mut [u8], function: u8, code: u8) -> usize
     2
 }
 
-// Copies `count` bytes of `reply`, from `from` on, to the start of `values`.
-fn copy_values(reply: &[u8], from: usize, count: usize, values: &mut [u8])
-    requires { ⌜ (from + count ≤ length (now reply)) × (count ≤ length (now values)) ⌝ }
-    ensures { λ _. ⌜ now (values .exit) ≡ over (take count (drop from (now (reply .entry)))) (now (values .entry)) ⌝ }
-{
-    let mut i = 0;
-    while i < count {
-        values[i] = reply[from + i];
-        i += 1;
-    }
-}
-
 // Writes the values of `quantity` registers from `start` on, and gives the answer's length.
 fn write_values(
     reply: &[u8],
@@ -97,7 +85,8 @@ fn write_values(
     let count = 2 * quantity;
     answer[0] = function;
     answer[1] = count as u8;
-    copy_values(reply, 2 * start, count, &mut answer[2..]);
+    let from = 2 * start;
+    bytes::copy(&reply[from..from + count], &mut answer[2..]);
     2 + count
 }
 

@@ -1,14 +1,13 @@
 -- Bytes put one behind the other into a buffer from a place on (`Put`).
 use Prim.Native.Nat.{ℕ, _+_, _≤_, _<_}
 use native.Mathlib.Nat.{add-zero, zero-add}
-use native.Mathlib.Numerals.{add-one}
 use native.Mathlib.Omega.{arith}
 use mathlib.Core.Path.{_≡_, refl, ap, sym, _∙_}
 use mathlib.Core.List.{List, [], _∷_, _++_, append-assoc, append-nil}
-use lib.ListN.{length, take, drop, getD, set, length-append, take-append-drop}
-use lib.Seq.{length-take-le, take-suc, take-all}
+use lib.ListN.{length, take, drop, set, length-append, take-append-drop}
+use lib.Seq.{length-take-le, take-length}
 use Rattle.rules.specs.Lists.{over}
-use Rattle.rules.proofs.Encoding.Front.{Front, front-part, front-set}
+use Rattle.rules.proofs.Encoding.Front.{Front, lent, givenBack, front-part, front-set, front-tail}
 use Rattle.text.specs.Text.{Put}
 
 module _ {s₀ : List ℕ} {at : ℕ} (room : at ≤ length s₀) where
@@ -33,18 +32,12 @@ module _ {s₀ : List ℕ} {at : ℕ} (room : at ≤ length s₀) where
 pub put-none : (s₀ : List ℕ) (at : ℕ) → Put s₀ at [] s₀ at
 put-none s₀ at = record { ends = omega arith; whole = rw (add-zero, take-append-drop) }
 
--- a word byte by byte
-module _ {s₀ s : List ℕ} {at : ℕ} (word : List ℕ) (i : ℕ) where
-  pub put-next : at + length word ≤ length s₀ → i < length word → Put s₀ at (take i word) s (at + i) → Put s₀ at (take (i + 1) word) (set s (at + i) (getD word i 0)) (at + (i + 1))
-  put-next room h f =
-      let e : at + (i + 1) ≡ at + i + 1 = omega arith in
-      let t : take (i + 1) word ≡ take i word ++ (getD word i 0 ∷ []) = ap (λ (n : ℕ). take n word) (add-one i) ∙ take-suc word i 0 h in
-      let r : at ≤ length s₀ = omega arith in
-      let k : at + i < length s₀ = omega arith in
-      rw (t, e) (put-byte r (getD word i 0) k f)
-
-  pub put-all : {k : ℕ} → length word ≤ i → Put s₀ at (take i word) s k → Put s₀ at word s k
-  put-all h f = rw (take-all i word h) at f
+-- a word copied into the part of the buffer from `at` on, which is lent and given back
+pub put-copied : {s₀ t : List ℕ} (at : ℕ) (word : List ℕ) → at + length word ≤ length s₀ → t ≡ take (length word) word ++ drop (length word) (lent at s₀) → Put s₀ at word (givenBack at s₀ t) (at + length word)
+put-copied {s₀} {t} at word room e =
+    let r : at ≤ length s₀ = omega arith in
+    let f = front-tail (front r (put-none s₀ at)) t word (length word) refl (e ∙ rw take-length) in
+    back r (rw append-nil at f)
 
 pub put-over : {s₀ p s : List ℕ} {k : ℕ} → Put s₀ 0 p s k → s ≡ over p s₀
 put-over {s₀ = s₀} {p = p} h = h .whole ∙ ap (λ (n : ℕ). p ++ drop n s₀) (zero-add (length p))

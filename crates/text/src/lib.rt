@@ -12,12 +12,7 @@ fn put_word(text: &mut [u8], at: usize, word: &[u8]) -> usize
     requires { ⌜ at + length (now word) ≤ length (now text) ⌝ }
     ensures { λ r. ⌜ Put (now (text .entry)) at (now (word .entry)) (now (text .exit)) r ⌝ }
 {
-    let mut i = 0;
-    while i < word.len() {
-        text[at + i] = word[i];
-        i += 1;
-    }
-    at + i
+    at + bytes::copy(word, &mut text[at..])
 }
 
 // The digits of `n / 10`, if there are any, then the last digit. A number has at most 20.

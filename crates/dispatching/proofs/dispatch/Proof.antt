@@ -3,7 +3,8 @@ use native.Mathlib.Omega.{arith}
 use mathlib.Core.Path.{subst}
 use denote.Ref.{now}
 use borrow.Author.Needs.{needs}
-use Rattle.evaluation.specs.Contracts.{First, FindsFirst}
+use Rattle.evaluation.specs.Contracts.{First}
+use Rattle.evaluation.proofs.Covering.{first-found, first-refused}
 use Rattle.bisection.proofs.Starting.{solving}
 use Rattle.dispatching.proofs.Endings.{promised, short, refused, replied}
 use Rattle.dispatching.proofs.dispatch.Statement.{statement}
@@ -32,19 +33,16 @@ entry c = passed c .before .before .before
 returns-2 : tie.Need-returns-2
 returns-2 c =
     let d = c .before .before .before in
-    let l = d .first-best .last in
     promised _ _
     (refused _ _ (passed d .if1 .left) _
-    (subst (FindsFirst (now (entry d .args .file)) (l .1 .0) (l .1 .1 .0) (l .1 .1 .1 .0) (l .1 .1 .1 .1 .0)) (c .before .first .given .1) (d .first-best .ensures)))
+    (first-refused _ _ _ _ _ (c .before .first .given .1) (d .first-best .ensures)))
 
 module _ (c : tie.After-known-told2) where
   abbrev d : tie.After-first-best
   d = c .before .before .before
 
   first : let l = d .first-best .last in let v = c .before .first2 .given .0 in First (now (entry d .args .file)) (l .1 .0) (l .1 .1 .0) (l .1 .1 .1 .0) (l .1 .1 .1 .1 .0) (v .0) (v .1 .0) (v .1 .1 .0) (v .1 .1 .1 .0)
-  first =
-      let l = d .first-best .last in
-      subst (FindsFirst (now (entry d .args .file)) (l .1 .0) (l .1 .1 .0) (l .1 .1 .1 .0) (l .1 .1 .1 .1 .0)) (c .before .first2 .given .1) (d .first-best .ensures)
+  first = first-found _ _ _ _ _ (c .before .first2 .given .1) (d .first-best .ensures)
 
 abbrev told : tie.After-solve → tie.After-known-told2
 told c = c .before .before .before .before .before

@@ -3,7 +3,8 @@ use mathlib.Core.Path.{_≡_, sym, subst, _∙_}
 use lib.ListN.{length}
 use denote.Ref.{now}
 use borrow.Author.Needs.{needs}
-use Rattle.evaluation.specs.Contracts.{First, FindsFirst}
+use Rattle.evaluation.specs.Contracts.{First}
+use Rattle.evaluation.proofs.Covering.{first-found, first-refused}
 use Rattle.rules.specs.Layout.{caseOf}
 use Rattle.bisection.proofs.Starting.{solving}
 use Rattle.judging.proofs.Outcomes.{units-counted, held}
@@ -20,8 +21,7 @@ entry d = d .before .before .before .before .before .before .before
 returns-2 : tie.Need-returns-2
 returns-2 c =
     let d = c .before .before .before in
-    let l = d .first-best .last in
-    sym (judged-refused (now (entry d .args .file)) (now (entry d .args .outputs)) (subst (FindsFirst (now (entry d .args .file)) (l .1 .0) (l .1 .1 .0) (l .1 .1 .1 .0) (l .1 .1 .1 .1 .0)) (c .before .first .given .1) (d .first-best .ensures)))
+    sym (judged-refused (now (entry d .args .file)) (now (entry d .args .outputs)) (first-refused _ _ _ _ _ (c .before .first .given .1) (d .first-best .ensures)))
 
 -- or accepted
 module _ (c : tie.After-known-told2) where
@@ -29,9 +29,7 @@ module _ (c : tie.After-known-told2) where
   d = c .before .before .before
 
   first : let l = d .first-best .last in let v = c .before .first2 .given .0 in First (now (entry d .args .file)) (l .1 .0) (l .1 .1 .0) (l .1 .1 .1 .0) (l .1 .1 .1 .1 .0) (v .0) (v .1 .0) (v .1 .1 .0) (v .1 .1 .1 .0)
-  first =
-      let l = d .first-best .last in
-      subst (FindsFirst (now (entry d .args .file)) (l .1 .0) (l .1 .1 .0) (l .1 .1 .1 .0) (l .1 .1 .1 .1 .0)) (c .before .first2 .given .1) (d .first-best .ensures)
+  first = first-found _ _ _ _ _ (c .before .first2 .given .1) (d .first-best .ensures)
 
   counted : c .before .first2 .given .0 .0 ≡ length (caseOf (now (entry d .args .file)) .units)
   counted = units-counted (first .site)

@@ -5,7 +5,8 @@ use mir.Facts.{toZ-ofZ}
 use denote.Ref.{now}
 use borrow.Author.Needs.{needs}
 use Rattle.fields.proofs.Integers.{is-same}
-use Rattle.evaluation.specs.Contracts.{First, FindsFirst}
+use Rattle.evaluation.specs.Contracts.{First}
+use Rattle.evaluation.proofs.Covering.{first-found, first-refused}
 use Rattle.evaluation.proofs.Covering.{multiplier-refused, case-refused, dualable, valued}
 use Rattle.pricing.proofs.price.Statement.{statement}
 use Rattle.pricing.proofs.price.Tie as tie
@@ -33,18 +34,15 @@ entry c = passed c .before .before
 returns-2 : tie.Need-returns-2
 returns-2 c =
     let d = c .before .before .before in
-    let l = d .first-best .last in
     case-refused (now (entry d .args .file)) (passed d .if1 .left)
-    (subst (FindsFirst (now (entry d .args .file)) (l .1 .0) (l .1 .1 .0) (l .1 .1 .1 .0) (l .1 .1 .1 .1 .0)) (c .before .first .given .1) (d .first-best .ensures))
+    (first-refused _ _ _ _ _ (c .before .first .given .1) (d .first-best .ensures))
 
 module _ (c : tie.After-known-told2) where
   abbrev d : tie.After-first-best
   d = c .before .before .before
 
   first : let l = d .first-best .last in let v = c .before .first2 .given .0 in First (now (entry d .args .file)) (l .1 .0) (l .1 .1 .0) (l .1 .1 .1 .0) (l .1 .1 .1 .1 .0) (v .0) (v .1 .0) (v .1 .1 .0) (v .1 .1 .1 .0)
-  first =
-      let l = d .first-best .last in
-      subst (FindsFirst (now (entry d .args .file)) (l .1 .0) (l .1 .1 .0) (l .1 .1 .1 .0) (l .1 .1 .1 .1 .0)) (c .before .first2 .given .1) (d .first-best .ensures)
+  first = first-found _ _ _ _ _ (c .before .first2 .given .1) (d .first-best .ensures)
 
 slice-aggregate-evaluate : tie.Need-slice-aggregate-evaluate
 slice-aggregate-evaluate c = search needs

@@ -14,7 +14,8 @@ use Rattle.rules.proofs.Demands.{valid-demands}
 use Rattle.rules.specs.Numbers.{dividedUp, greatestAt}
 use Rattle.rules.specs.Problem.{problemIn}
 use Rattle.rules.specs.Bisection.{found}
-use Rattle.evaluation.specs.Contracts.{First, FindsFirst}
+use Rattle.evaluation.specs.Contracts.{First}
+use Rattle.evaluation.proofs.Covering.{first-found, first-refused}
 use Rattle.bisection.proofs.Starting.{holding}
 use Rattle.sensitivity.specs.Floors.{dualFor, floorFor}
 use Rattle.sensitivity.proofs.Outcomes.{refused-demands, refused-short, refused-case, written}
@@ -66,10 +67,9 @@ entry c = asked (passed c .before)
 returns-3 : tie.Need-returns-3
 returns-3 c =
     let d = c .before .before .before in
-    let l = d .first-best .last in
     let a = entry d .args in
     refused-case (now (a .file)) (now (a .demands)) (now (a .floors)) (valid (passed d .before)) (omega (arith, passed d .if2 .left))
-    (subst (FindsFirst (now (a .file)) (l .1 .0) (l .1 .1 .0) (l .1 .1 .1 .0) (l .1 .1 .1 .1 .0)) (c .before .first .given .1) (d .first-best .ensures))
+    (first-refused _ _ _ _ _ (c .before .first .given .1) (d .first-best .ensures))
 
 -- or accepted
 module _ (c : tie.After-known-told2) where
@@ -77,9 +77,7 @@ module _ (c : tie.After-known-told2) where
   d = c .before .before .before
 
   first : let l = d .first-best .last in let v = c .before .first2 .given .0 in First (now (entry d .args .file)) (l .1 .0) (l .1 .1 .0) (l .1 .1 .1 .0) (l .1 .1 .1 .1 .0) (v .0) (v .1 .0) (v .1 .1 .0) (v .1 .1 .1 .0)
-  first =
-      let l = d .first-best .last in
-      subst (FindsFirst (now (entry d .args .file)) (l .1 .0) (l .1 .1 .0) (l .1 .1 .1 .0) (l .1 .1 .1 .1 .0)) (c .before .first2 .given .1) (d .first-best .ensures)
+  first = first-found _ _ _ _ _ (c .before .first2 .given .1) (d .first-best .ensures)
 
 slice-aggregate-search : tie.Need-slice-aggregate-search
 slice-aggregate-search c = search needs
