@@ -12,7 +12,7 @@ use Rattle.rules.specs.Problem.{totalCost, totalNet, Offer, Problem, unitsOf}
 use Rattle.rules.proofs.Economics.Quantities.{cost-range, net-range}
 use Rattle.site.specs.Site.{Coefficients, noOffer, HoldsOffer, HoldsProblem}
 use Rattle.evaluation.specs.declared.Sums as code
-use Rattle.evaluation.specs.Contracts.{Held, HoldsOutputs, HoldsEach, Sized, Allocates}
+use Rattle.evaluation.specs.Contracts.{SiteHeld, HoldsOutputs, HoldsEach, Sized, Allocates}
 
 module _ (pick : Offer → ℕ) where
   -- of a problem: the first i units have their outputs
@@ -75,7 +75,7 @@ module _ (pick : Offer → ℕ) where
     pub sized : Sized i (record { cost = c; net = w })
     pub held : (q : Problem) → HoldsProblem coefficients ends ranges n q → Placed q outputs c w i
 
-  module _ {coefficients ends ranges : List ℕ} {n : ℕ} (g : Held coefficients ends ranges n) where
+  module _ {coefficients ends ranges : List ℕ} {n : ℕ} (g : SiteHeld coefficients ends ranges n) where
     pub allocating-starts : {outputs : List ℕ} → n ≤ length outputs → Allocating coefficients ends ranges n outputs 0 0 0
     allocating-starts room = record { within = omega arith; room = room; sized = record { cost = omega arith; net = omega arith }; held = λ q h. record { places = refl; cost = omega arith; net = omega arith } }
 

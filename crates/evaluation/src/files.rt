@@ -1,5 +1,5 @@
-// From a case file's bytes to step 1.
-ghost use Rattle.evaluation.specs.Contracts.{Held, Steps, FindsFirst};
+// Step 1 on the arrays of a site, and from a case file's bytes: decoded, then step 1.
+ghost use Rattle.evaluation.specs.Contracts.{SiteHeld, Steps, FindsFirst};
 use crate::FirstBest;
 use crate::Sums;
 use crate::totals::greatest_outputs;
@@ -16,7 +16,7 @@ pub fn step1(
     target: u64,
     outputs: &mut [u16; 32],
 ) -> FirstBest
-    requires { ⌜ Held (now coefficients) (now ends) (now ranges) n ⌝ }
+    requires { ⌜ SiteHeld (now coefficients) (now ends) (now ranges) n ⌝ }
     ensures { λ r. ⌜ Steps (now (coefficients .entry)) (now (ends .entry)) (now (ranges .entry)) n target (now (outputs .exit)) r ⌝ }
 {
     let Sums { cost, net } = greatest_outputs(coefficients, ends, ranges, n, outputs);

@@ -11,7 +11,7 @@ use Rattle.rules.specs.Choice.{greatestFloor}
 use Rattle.rules.specs.Bisection.{greatestOutputs, found}
 use Rattle.rules.specs.Offers.{Given}
 use Rattle.site.specs.Site.{Within, HoldsProblem}
-use Rattle.evaluation.specs.Contracts.{Held, HoldsOutputs, Sized}
+use Rattle.evaluation.specs.Contracts.{SiteHeld, HoldsOutputs, Sized}
 use Rattle.bisection.specs.declared.steps.Allocation as code-allocation
 use Rattle.bisection.specs.Contracts.{sumsOf, Holding}
 use Rattle.judging.specs.declared.Judged.{Judged}
@@ -24,7 +24,7 @@ pub record LiesTold (ends : List ℕ) (first last p : ℕ) (r : Bool) : Type 0 w
 
 -- the arrays hold some problem, and there is an output for each of its units
 pub record Summable (coefficients ends ranges : List ℕ) (n : ℕ) (ps : List ℕ) : Type 0 where
-  pub held : Held coefficients ends ranges n
+  pub held : SiteHeld coefficients ends ranges n
   pub each : length ps ≡ n
 
 -- the outputs ps, which the units of q offer, have this cost and net

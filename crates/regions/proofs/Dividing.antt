@@ -23,7 +23,7 @@ use Rattle.regions.specs.Contracts.{KeptOutside, RegionsWritten}
 use Rattle.regions.proofs.Windowed.{Windowed}
 use Rattle.regions.proofs.KeptOutside.{kept-all, kept-set, kept-then, first-written, second-written, both-kept}
 use Rattle.regions.proofs.Ascending.{Pushable, Pushed, pushed, counted, push, at-most-one, one-true}
-use Rattle.regions.proofs.Held.{held-standing, held-more}
+use Rattle.regions.proofs.HeldFrom.{held-standing, held-more}
 use Rattle.rules.proofs.Zones.{outside, before-zone, after-zone, within-zone, next-zone}
 
 -- the regions start .. next − 1 have the permitted outputs below `from`, where zone k − 1 ends or the running outputs begin

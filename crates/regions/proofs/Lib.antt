@@ -1,5 +1,5 @@
 pub mod KeptOutside
 pub mod Windowed
 pub mod Ascending
-pub mod Held
+pub mod HeldFrom
 pub mod Dividing

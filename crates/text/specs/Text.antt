@@ -99,8 +99,8 @@ printed file = let r = dispatched file (replicate 92 0) in textOf (r .answer) (r
 -- ---- what the code asks and does
 
 -- a reply is of 28 to 92 bytes, all within the buffer
-abbrev pub Held : Dispatched → List ℕ → Type 0
-Held answer buffer = (n : ℕ) → answer ≡ Dispatched.Replied n → (28 ≤ n) × (n ≤ 92) × (n ≤ length buffer)
+abbrev pub ReplyFits : Dispatched → List ℕ → Type 0
+ReplyFits answer buffer = (n : ℕ) → answer ≡ Dispatched.Replied n → (28 ≤ n) × (n ≤ 92) × (n ≤ length buffer)
 
 -- some bytes are put into a buffer from a place on, and the next place is behind them
 pub record Put (before : List ℕ) (at : ℕ) (put : List ℕ) (after : List ℕ) (next : ℕ) : Type 0 where

@@ -5,7 +5,7 @@ ghost use Prim.Native.Nat.{_+_, _-_, _*_, _/_, _≤_, _<_};
 ghost use lib.ListN.{length};
 ghost use Rattle.fields.specs.Field.{field};
 ghost use Rattle.rules.specs.Lists.{over};
-ghost use Rattle.text.specs.Text.{Held, Put, decimal, lineFeed, outputLine, outputLines, replyText, summaryLine, textOf};
+ghost use Rattle.text.specs.Text.{ReplyFits, Put, decimal, lineFeed, outputLine, outputLines, replyText, summaryLine, textOf};
 use rules::Dispatched;
 
 fn put_word(text: &mut [u8], at: usize, word: &[u8]) -> usize
@@ -99,7 +99,7 @@ fn put_reply(text: &mut [u8], reply: &[u8]) -> usize
 
 // Writes the text of an answer at the start of `text`, and gives its length. `reply` is the buffer that was lent to dispatch.
 pub fn write_text(text: &mut [u8], answer: Dispatched, reply: &[u8]) -> usize
-    requires { ⌜ (2048 ≤ length (now text)) × Held answer (now reply) ⌝ }
+    requires { ⌜ (2048 ≤ length (now text)) × ReplyFits answer (now reply) ⌝ }
     ensures { λ r. ⌜ (r ≡ length (textOf answer (now (reply .entry)))) × (now (text .exit) ≡ over (textOf answer (now (reply .entry))) (now (text .entry))) ⌝ }
 {
     match answer {

@@ -9,7 +9,7 @@ use Rattle.rules.specs.Problem.{Offer, Problem}
 use Rattle.rules.proofs.Economics.Quantities.{cost-range}
 use Rattle.regions.specs.Regions.{high}
 use Rattle.site.specs.Site.{last, noOffer, HoldsOffer, HoldsProblem}
-use Rattle.evaluation.specs.Contracts.{Held, Sized}
+use Rattle.evaluation.specs.Contracts.{SiteHeld, Sized}
 use Rattle.evaluation.proofs.Offers.{greatest-held, greatest-small}
 use Rattle.evaluation.proofs.Allocating.{Allocating, allocating-starts, offered, sized-more, allocating-more, allocating-ends}
 use Rattle.evaluation.proofs.totals.greatest_outputs.Statement.{statement}
@@ -36,7 +36,7 @@ module _ (c : tie.In-loop Inv-loop μ-loop) where
   abbrev i : ℕ
   i = c .before .loop .i
 
-  abbrev g : Held (now (s .args .coefficients)) (now (s .args .ends)) (now (s .args .ranges)) (s .args .n)
+  abbrev g : SiteHeld (now (s .args .coefficients)) (now (s .args .ends)) (now (s .args .ranges)) (s .args .n)
   g = s .pre .0
 
   few : i < 32
