@@ -27,7 +27,7 @@ use rules::Unpacked;
 use sensitivity::Floored;
 
 fn print_refusal(r: Refusal) -> u32 {
-    let n = rules::number(r);
+    let n = refusal_number::number(r);
     number(b"refused ", n as u64);
     n
 }
