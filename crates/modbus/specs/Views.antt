@@ -1,11 +1,12 @@
 -- Rule 18.12 of docs/SPECIFICATION.md, and what tells wrong views apart: calls on the replies of U5 and of a site with two units (`CaseFiles`), byte by byte. Above each row stands the wrong rule that it shows.
-use Prim.Native.Nat.{ℕ, _+_, _*_}
-use mathlib.Core.List.{List, [], _∷_, _++_, map}
-use mathlib.Core.Path.{_≡_, refl}
+use Prim.Native.Nat.{ℕ}
+use mathlib.Core.List.{List, [], _∷_, _++_}
+use mathlib.Core.Path.{refl}
 use lib.IntN.{ℤ, pos}
 use lib.ListN.{length, replicate, take, drop}
 use Rattle.fields.specs.Field.{numberAfter}
 use Rattle.rules.specs.Refusal.{numberOf}
+use Rattle.rules.specs.Rows.{Row, Holds}
 use Rattle.rules.specs.CaseFiles.{u5Reply, siteReply, put}
 use Rattle.modbus.specs.declared.Viewed.{Viewed}
 use Rattle.modbus.specs.View.{exceptionTo, answerOf, viewVerdict, viewEnds, viewed, panelViewed}
@@ -42,19 +43,15 @@ result (askInto reply request answer) = let r = viewed reply request answer in o
 result (panelAsk reply request lengths) = let r = panelViewed reply request buffer lengths in returns (r .number) (r .bytes) (r .lengths)
 result (panelAskInto reply request answer lengths) = let r = panelViewed reply request answer lengths in returns (r .number) (r .bytes) (r .lengths)
 
-pub record Row : Type 0 where
-  pub call : Call
-  pub result : Result
-
 -- a request to read so many registers from one on, both below 256
 abbrev pub read : ℕ → ℕ → List ℕ
 read start quantity = 3 ∷ 0 ∷ start ∷ 0 ∷ quantity ∷ []
 
 -- a reply of 32 units, 92 bytes, its last output 0x1234
-unfoldable pub full : List ℕ
+abbrev pub full : List ℕ
 full = put 0 (0x00 ∷ 0x20 ∷ []) (u5Reply ++ replicate 60 0 ++ (0x12 ∷ 0x34 ∷ []))
 
-unfoldable pub views : List Row
+unfoldable pub views : List (Row Call Result)
 views =
     -- registers numbered from 1; low byte first; the quantity for the number of bytes
     record { call = ask u5Reply (read 0 2); result = answers (0x03 ∷ 0x04 ∷ 0x00 ∷ 0x01 ∷ 0x00 ∷ 0x12 ∷ []) }
@@ -162,6 +159,6 @@ views =
     ∷ record { call = panelAskInto u5Reply (read 0 1) (replicate 251 255) (pos 8 ∷ []); result = returns 17 (replicate 251 255) (pos 8 ∷ []) }
     ∷ []
 
-pub views-hold : map (λ r. result (r .call)) views ≡ map (λ r. r .result) views
-unfolding result views full u5Reply siteReply
+pub views-hold : Holds result views
+unfolding result views
 views-hold = refl

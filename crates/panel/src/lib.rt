@@ -26,7 +26,7 @@ pub extern "C" fn shahfureel_dispatch(file: &[u8], reply: &mut [u8]) -> u32
     let answer = dispatching::dispatch(file, reply);
     match answer {
         Dispatched::Replied(length) => length as u32,
-        Dispatched::Refused(r) => rules::number(r),
+        Dispatched::Refused(r) => refusal_number::number(r),
     }
 }
 
@@ -41,14 +41,14 @@ pub extern "C" fn shahfureel_price(file: &[u8], m: u32, answers: &mut [i64]) -> 
     ensures { λ n. ⌜ panelPriced (now (file .entry)) m (now (answers .entry)) ≡ record { number = n; answers = now (answers .exit) } ⌝ }
 {
     if m > 65536 {
-        return rules::number(Refusal::MultiplierOutOfRange);
+        return refusal_number::number(Refusal::MultiplierOutOfRange);
     }
     if answers.len() < 2 {
-        return rules::number(Refusal::BufferTooShort);
+        return refusal_number::number(Refusal::BufferTooShort);
     }
     let answer = pricing::price(file, m);
     match answer {
-        Priced::Refused(r) => rules::number(r),
+        Priced::Refused(r) => refusal_number::number(r),
         Priced::Valued { dual, covers } => {
             answers[0] = dual;
             answers[1] = flag(covers);
@@ -64,7 +64,7 @@ pub extern "C" fn shahfureel_pack(demand: u32, rows: &[u32], file: &mut [u8]) ->
     let answer = packing::pack(demand, rows, file);
     match answer {
         Packed::Written(length) => length as u32,
-        Packed::Refused(r) => rules::number(r),
+        Packed::Refused(r) => refusal_number::number(r),
     }
 }
 
@@ -73,11 +73,11 @@ pub extern "C" fn shahfureel_unpack(file: &[u8], rows: &mut [u32], answers: &mut
     ensures { λ n. ⌜ panelUnpacked (now (file .entry)) (now (rows .entry)) (now (answers .entry)) ≡ record { number = n; rows = now (rows .exit); answers = now (answers .exit) } ⌝ }
 {
     if answers.len() < 2 {
-        return rules::number(Refusal::BufferTooShort);
+        return refusal_number::number(Refusal::BufferTooShort);
     }
     let answer = unpacking::unpack(file, rows);
     match answer {
-        Unpacked::Refused(r) => rules::number(r),
+        Unpacked::Refused(r) => refusal_number::number(r),
         Unpacked::Read { demand, count } => {
             answers[0] = demand as i64;
             answers[1] = count as i64;
@@ -96,11 +96,11 @@ pub extern "C" fn shahfureel_view(
     ensures { λ n. ⌜ panelViewed (now (reply .entry)) (now (request .entry)) (now (answer .entry)) (now (lengths .entry)) ≡ record { number = n; bytes = now (answer .exit); lengths = now (lengths .exit) } ⌝ }
 {
     if lengths.len() < 1 {
-        return rules::number(Refusal::BufferTooShort);
+        return refusal_number::number(Refusal::BufferTooShort);
     }
     let viewed = modbus::view(reply, request, answer);
     match viewed {
-        Viewed::Refused(r) => rules::number(r),
+        Viewed::Refused(r) => refusal_number::number(r),
         Viewed::Answered(length) => {
             lengths[0] = length as i64;
             0
@@ -124,11 +124,11 @@ pub extern "C" fn shahfureel_judge(file: &[u8], outputs: &[u32], answers: &mut [
     ensures { λ n. ⌜ panelJudged (now (file .entry)) (now (outputs .entry)) (now (answers .entry)) ≡ record { number = n; answers = now (answers .exit) } ⌝ }
 {
     if answers.len() < 4 {
-        return rules::number(Refusal::BufferTooShort);
+        return refusal_number::number(Refusal::BufferTooShort);
     }
     let judged = judging::judge(file, outputs);
     match judged {
-        Judged::Refused(r) => rules::number(r),
+        Judged::Refused(r) => refusal_number::number(r),
         Judged::NotAccepted => {
             write_judgement(answers, false, 0, 0, 0);
             0
@@ -154,11 +154,11 @@ pub extern "C" fn shahfureel_floors(
     ensures { λ n. ⌜ panelFloored (now (file .entry)) (now (demands .entry)) (now (floors .entry)) (now (answers .entry)) ≡ record { number = n; floors = now (floors .exit); answers = now (answers .exit) } ⌝ }
 {
     if answers.len() < 1 {
-        return rules::number(Refusal::BufferTooShort);
+        return refusal_number::number(Refusal::BufferTooShort);
     }
     let floored = sensitivity::floors(file, demands, floors);
     match floored {
-        Floored::Refused(r) => rules::number(r),
+        Floored::Refused(r) => refusal_number::number(r),
         Floored::Written(count) => {
             answers[0] = count as i64;
             0

@@ -91,7 +91,7 @@ abbrev pub endsOf : List Region → List ℕ
 endsOf [] = []
 endsOf (r ∷ rs) = r .low ∷ r .high ∷ endsOf rs
 
--- what the rules give
+-- what the rules give. Its line names every definition of the rules that an answer needs: to unfold `answer` is to unfold them all, and so a closed case computes, also in the tables of other crates.
 unfoldable pub answer : Call → Answer
 unfolding numberAfter signed bytes bytesOfEach zones edgeOfBody unitOfBody bodyOfUnit caseOf contentsFrom bodiesOf fileOf editionVerdict headVerdict contentsVerdict zonesAscend unitVerdict bodyVerdict fileVerdict permitted cost linearFactor net totalCost totalNet offer problemOf pricedCost preferredFrom preferred total choices lowered selected dualValue dividedUp floor greatestAt step4 step3 search greatestOutputs solvable found natural replyOf solve replyBytes caseVerdict dispatchVerdict dispatchEnds dispatched priceVerdict priceEnds priced unitOfRow unitsOfRows packVerdict packEnds packed rowOfUnit rowsOfUnits unpackVerdict unpackEnds unpacked panelDispatched panelPriced panelPacked panelUnpacked allocation intervals regions
 answer (dispatch file) = let r = dispatched file buffer in ofDispatch (r .answer) (r .reply)
@@ -109,10 +109,6 @@ answer (allocate us ps) = allocates (allocation us ps)
 answer (searchFor target) = ofSearch (search (λ m. m) (λ x. 2 * x) target 70000)
 answer (solveOffers d offers) = ofSolution (solve (record { demand = d; offers = offers }))
 answer (divide u) = divides (endsOf (regions u))
-
-pub record Row : Type 0 where
-  pub call : Call
-  pub result : Answer
 
 -- outputs, cost, gap, evaluations, surplus, as the reply's bytes
 abbrev pub reply : List ℕ → ℕ → ℕ → ℕ → ℕ → Answer

@@ -2,16 +2,17 @@
 -- The other lists tell apart rules which that table does not: `further` (dispatches, pricings, packings, unpackings), `standing` (what a unit costs that stands), `panelForms` (the calls as C sees them), `searches` (steps 2 to 4 by themselves), `divisions` (the regions of a unit). Above each of their rows stands the wrong rule that it shows.
 use Prim.Native.Nat.{_+_}
 use mathlib.Core.Bool.{true, false}
-use mathlib.Core.List.{List, [], _∷_, _++_, map}
-use mathlib.Core.Path.{_≡_, refl}
+use mathlib.Core.List.{List, [], _∷_, _++_}
+use mathlib.Core.Path.{refl}
 use lib.IntN.{pos, negℤ}
 use lib.ListN.{replicate, drop}
 use Rattle.rules.specs.Lists.{each, over}
 use Rattle.rules.specs.Layout.{fileOf, unitOfRow}
-use Rattle.rules.specs.Cases.{Row, answer, buffer, reply, dispatch, price, pack, check, dispatchInto, packInto, unpackInto, panelDispatch, panelPrice, panelPack, panelUnpack, allocate, searchFor, solveOffers, divide, writes, refuses, values, checks, reads, returns, allocates, finds, solves, divides}
-use Rattle.rules.specs.CaseFiles.{u5, u5Reply, site, siteReply, u10Reply, rowOfU, rowsOfSite, put, shortHead, otherEdition, noUnit, demandAbove, byteTooMany, noZone, linearCostAbove, edgeAtLeast, otherMark, largestLosses, rowsBuffer, answers, unit, U, lossy, priced-at, marked, zoned, costing}
+use Rattle.rules.specs.Rows.{Row, Holds}
+use Rattle.rules.specs.Cases.{Call, Answer, answer, buffer, reply, dispatch, price, pack, check, dispatchInto, packInto, unpackInto, panelDispatch, panelPrice, panelPack, panelUnpack, allocate, searchFor, solveOffers, divide, writes, refuses, values, checks, reads, returns, allocates, finds, solves, divides}
+use Rattle.rules.specs.CaseFiles.{u5, u5Reply, site, siteReply, u10Reply, rowOfU, rowsOfSite, put, shortHead, otherMark, largestLosses, rowsBuffer, answers, unit, U, lossy, priced-at, marked, zoned, costing}
 
-unfoldable pub table : List Row
+unfoldable pub table : List (Row Call Answer)
 table =
     record { call = dispatch u5; result = writes 30 (over u5Reply buffer) }
     ∷ record { call = dispatch (fileOf 0 (U ∷ [])); result = reply (0 ∷ []) 0 0 1 0 }
@@ -28,7 +29,7 @@ table =
     ∷ record { call = price u5 65536; result = values (negℤ (pos 32748000000000)) true }
     ∷ []
 
-unfoldable pub further : List Row
+unfoldable pub further : List (Row Call Answer)
 further =
     -- a floor rounded down
     record { call = dispatch (fileOf 5 (lossy ∷ [])); result = reply (7 ∷ []) 119000 41999 18 199999951 }
@@ -89,7 +90,7 @@ further =
     ∷ []
 
 -- A unit that stands costs nothing (rule 6.2, since S-1).
-unfoldable pub standing : List Row
+unfoldable pub standing : List (Row Call Answer)
 standing =
     -- c0 charged to a unit that stands
     record { call = dispatch (fileOf 0 (costing 50000 10000 1000 0 ∷ [])); result = reply (0 ∷ []) 0 0 1 0 }
@@ -115,7 +116,7 @@ standing =
     ∷ record { call = price (fileOf 5 (costing 10000 0 0 0 ∷ [])) 1; result = values (pos 500000000) true }
     ∷ []
 
-unfoldable pub panelForms : List Row
+unfoldable pub panelForms : List (Row Call Answer)
 panelForms =
     -- dispatch does not return the length
     record { call = panelDispatch u5 buffer; result = returns 30 (u5Reply ++ replicate 62 255) [] }
@@ -153,7 +154,7 @@ panelForms =
     ∷ record { call = panelUnpack shortHead (replicate 607 9) answers; result = returns 1 (replicate 607 9) answers }
     ∷ []
 
-unfoldable pub searches : List Row
+unfoldable pub searches : List (Row Call Answer)
 searches =
     -- step 2 evaluates another multiplier than 0; step 3 made where step 2 covers
     record { call = searchFor 0; result = finds 0 (0 ∷ []) }
@@ -173,7 +174,7 @@ searches =
     ∷ record { call = solveOffers 5000 (largestLosses ∷ []); result = solves (10000 ∷ []) 200000000000 59982892 2 0 }
     ∷ []
 
-unfoldable pub divisions : List Row
+unfoldable pub divisions : List (Row Call Answer)
 divisions =
     -- 0 left out or put behind the running intervals, or a zone offered
     record { call = divide U; result = divides (0 ∷ 0 ∷ 2 ∷ 4 ∷ 7 ∷ 10 ∷ []) }
@@ -197,26 +198,26 @@ divisions =
     ∷ record { call = divide (unitOfRow (0 ∷ 10000 ∷ 1000 ∷ 0 ∷ 2 ∷ 10 ∷ 0 ∷ 0 ∷ 0 ∷ 1 ∷ 2 ∷ 3 ∷ 4 ∷ 6 ∷ 9 ∷ replicate 4 0)); result = divides (2 ∷ 3 ∷ 4 ∷ 6 ∷ 9 ∷ 10 ∷ []) }
     ∷ []
 
-pub table-holds : map (λ r. answer (r .call)) table ≡ map (λ r. r .result) table
-unfolding answer table u5 u5Reply U lossy marked zoned
+pub table-holds : Holds answer table
+unfolding answer table
 table-holds = refl
 
-pub further-holds : map (λ r. answer (r .call)) further ≡ map (λ r. r .result) further
-unfolding answer further u5 u5Reply u10Reply site siteReply rowOfU rowsOfSite U lossy priced-at marked
+pub further-holds : Holds answer further
+unfolding answer further
 further-holds = refl
 
-pub standing-holds : map (λ r. answer (r .call)) standing ≡ map (λ r. r .result) standing
-unfolding answer standing U costing rowOfU unitOfRow
+pub standing-holds : Holds answer standing
+unfolding answer standing
 standing-holds = refl
 
-pub panel-forms-hold : map (λ r. answer (r .call)) panelForms ≡ map (λ r. r .result) panelForms
-unfolding answer panelForms u5 shortHead otherEdition noUnit demandAbove byteTooMany noZone linearCostAbove edgeAtLeast otherMark u5Reply site rowOfU rowsOfSite
+pub panel-forms-hold : Holds answer panelForms
+unfolding answer panelForms
 panel-forms-hold = refl
 
-pub searches-hold : map (λ r. answer (r .call)) searches ≡ map (λ r. r .result) searches
-unfolding answer searches largestLosses
+pub searches-hold : Holds answer searches
+unfolding answer searches
 searches-hold = refl
 
-pub divisions-hold : map (λ r. answer (r .call)) divisions ≡ map (λ r. r .result) divisions
-unfolding answer divisions U marked zoned unitOfRow
+pub divisions-hold : Holds answer divisions
+unfolding answer divisions
 divisions-hold = refl

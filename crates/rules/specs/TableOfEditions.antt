@@ -1,17 +1,18 @@
 -- Rule 17.4 of docs/SPECIFICATION.md: edition 2 (since S-4), case by case: `linearLosses` (what b1 does to dispatch and pricing), `editionLimits` (the last accepted value and the first refused one), `editionRefusals` (18 and 3, and their places in the order). Above each row stands the wrong rule that it shows.
 use Prim.Native.Nat.{_+_, _*_, _%_}
 use mathlib.Core.Bool.{true, false, cond}
-use mathlib.Core.List.{List, [], _∷_, _++_, map}
-use mathlib.Core.Path.{_≡_, refl}
+use mathlib.Core.List.{List, [], _∷_, _++_}
+use mathlib.Core.Path.{refl}
 use lib.Dec.{eqb}
 use lib.IntN.{pos, negℤ}
 use lib.ListN.{replicate, take, drop}
-use Rattle.fields.specs.Field.{bytes, bytesOfEach}
+use Rattle.fields.specs.Field.{bytesOfEach}
 use Rattle.rules.specs.Lists.{over, each}
-use Rattle.rules.specs.Cases.{Row, answer, buffer, reply, dispatch, price, pack, check, unpackInto, panelDispatch, panelPrice, panelUnpack, writes, refuses, values, checks, returns}
+use Rattle.rules.specs.Rows.{Row, Holds}
+use Rattle.rules.specs.Cases.{Call, Answer, answer, buffer, reply, dispatch, price, pack, check, unpackInto, panelDispatch, panelPrice, panelUnpack, writes, refuses, values, checks, returns}
 use Rattle.rules.specs.CaseFiles.{u5, u5Reply, rowOfU, atLimits, put, copies, withLinearLoss, site2, site2Reply, inEdition2, rowsBuffer, answers}
 
-unfoldable pub linearLosses : List Row
+unfoldable pub linearLosses : List (Row Call Answer)
 linearLosses =
     -- edition 2 not accepted, or read otherwise than edition 1 where b1 is 0
     record { call = dispatch (withLinearLoss 0x00 0x00 0x00 0x00); result = writes 30 (over u5Reply buffer) }
@@ -55,7 +56,7 @@ linearLosses =
     ∷ record { call = price (put 7 (0x0A ∷ []) (withLinearLoss 0x00 0x00 0x00 0x01)) 0; result = refuses 11 [] }
     ∷ []
 
-unfoldable pub editionLimits : List Row
+unfoldable pub editionLimits : List (Row Call Answer)
 editionLimits =
     -- b1 10,000,000 refused
     record { call = check (withLinearLoss 0x00 0x98 0x96 0x80); result = checks 0 }
@@ -109,7 +110,7 @@ editionLimits =
     ∷ record { call = check (put 8 (0x00 ∷ 0x0D ∷ []) (withLinearLoss 0x00 0x00 0x00 0x00) ++ (0x00 ∷ [])); result = checks 6 }
     ∷ []
 
-unfoldable pub editionRefusals : List Row
+unfoldable pub editionRefusals : List (Row Call Answer)
 editionRefusals =
     -- dispatch accepts b1 10,000,001, or writes before it refuses
     record { call = dispatch (withLinearLoss 0x00 0x98 0x96 0x81); result = refuses 18 buffer }
@@ -171,14 +172,14 @@ editionRefusals =
     ∷ record { call = pack 5 (put 3 (5001 ∷ []) rowOfU); result = refuses 8 buffer }
     ∷ []
 
-pub linear-losses-hold : map (λ r. answer (r .call)) linearLosses ≡ map (λ r. r .result) linearLosses
-unfolding answer linearLosses withLinearLoss site2 site2Reply u5Reply
+pub linear-losses-hold : Holds answer linearLosses
+unfolding answer linearLosses
 linear-losses-hold = refl
 
-pub edition-limits-hold : map (λ r. answer (r .call)) editionLimits ≡ map (λ r. r .result) editionLimits
-unfolding answer editionLimits withLinearLoss u5 atLimits bytes bytesOfEach
+pub edition-limits-hold : Holds answer editionLimits
+unfolding answer editionLimits
 edition-limits-hold = refl
 
-pub edition-refusals-hold : map (λ r. answer (r .call)) editionRefusals ≡ map (λ r. r .result) editionRefusals
-unfolding answer editionRefusals withLinearLoss site2 u5 rowOfU
+pub edition-refusals-hold : Holds answer editionRefusals
+unfolding answer editionRefusals
 edition-refusals-hold = refl

@@ -1,12 +1,13 @@
 -- The refusals (rules 4.1 to 4.8), case by case: `limits` (the last accepted value of each field and the first refused one), `refusals` (each number from each call that gives it), `orders` (an input that breaks two rules gets the number of the earlier check). Above each row stands the wrong rule that it shows.
-use mathlib.Core.List.{List, [], _∷_, _++_, map}
-use mathlib.Core.Path.{_≡_, refl}
+use mathlib.Core.List.{List, [], _∷_, _++_}
+use mathlib.Core.Path.{refl}
 use lib.ListN.{replicate, take}
 use Rattle.rules.specs.Layout.{fileOf}
-use Rattle.rules.specs.Cases.{Row, answer, buffer, dispatch, price, pack, check, dispatchInto, packInto, unpackInto, writes, refuses, checks}
+use Rattle.rules.specs.Rows.{Row, Holds}
+use Rattle.rules.specs.Cases.{Call, Answer, answer, buffer, dispatch, price, pack, check, dispatchInto, packInto, unpackInto, writes, refuses, checks}
 use Rattle.rules.specs.CaseFiles.{u5, site, rowOfU, rowsOfSite, atLimits, put, copies, shortHead, otherEdition, noUnit, demandAbove, byteTooMany, noZone, linearCostAbove, edgeAtLeast, otherMark, rowsBuffer, U, zoned}
 
-unfoldable pub limits : List Row
+unfoldable pub limits : List (Row Call Answer)
 limits =
     -- a limit lower than that of rule 2.6; for least, a higher one
     record { call = check atLimits; result = checks 0 }
@@ -73,7 +74,7 @@ limits =
     ∷ []
 
 -- Each number from 1 to 14, from each call that gives it (pricing's 1 is C's alone: `panelForms`).
-unfoldable pub refusals : List Row
+unfoldable pub refusals : List (Row Call Answer)
 refusals =
     -- dispatch accepts a reply of 91 bytes
     record { call = dispatchInto u5 (replicate 91 255); result = refuses 1 (replicate 91 255) }
@@ -166,7 +167,7 @@ refusals =
     ∷ []
 
 -- Each input breaks two rules.
-unfoldable pub orders : List Row
+unfoldable pub orders : List (Row Call Answer)
 orders =
     -- dispatch: 2 before 1
     record { call = dispatchInto shortHead (replicate 91 255); result = refuses 1 (replicate 91 255) }
@@ -212,14 +213,14 @@ orders =
     ∷ record { call = packInto 5 (put 9 (2 ∷ []) rowOfU) (replicate 41 255); result = refuses 10 (replicate 41 255) }
     ∷ []
 
-pub limits-hold : map (λ r. answer (r .call)) limits ≡ map (λ r. r .result) limits
-unfolding answer limits u5 site atLimits rowOfU U zoned
+pub limits-hold : Holds answer limits
+unfolding answer limits
 limits-hold = refl
 
-pub refusals-hold : map (λ r. answer (r .call)) refusals ≡ map (λ r. r .result) refusals
-unfolding answer refusals u5 shortHead otherEdition noUnit demandAbove byteTooMany noZone linearCostAbove edgeAtLeast otherMark rowOfU rowsOfSite
+pub refusals-hold : Holds answer refusals
+unfolding answer refusals
 refusals-hold = refl
 
-pub orders-hold : map (λ r. answer (r .call)) orders ≡ map (λ r. r .result) orders
-unfolding answer orders u5 shortHead otherEdition noUnit demandAbove byteTooMany noZone linearCostAbove edgeAtLeast otherMark site rowOfU rowsOfSite
+pub orders-hold : Holds answer orders
+unfolding answer orders
 orders-hold = refl

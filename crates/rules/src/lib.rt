@@ -1,8 +1,6 @@
 // The answers of the public calls. What they mean is docs/SPECIFICATION.md as definitions, in specs/.
-ghost use mathlib.Core.Path.{_≡_};
-ghost use Rattle.rules.specs.Refusal.{numberOf};
 
-// Why a call refuses. `number` gives the number of each (rule 4.2).
+// Why a call refuses. Each has a number (rule 4.2): `Refusal.numberOf` in specs/, `refusal_number::number` in code.
 pub enum Refusal {
     // A reply under 92 bytes, rows under 608 numbers, or a panel's answers under two.
     BufferTooShort,
@@ -46,34 +44,6 @@ pub enum Refusal {
     DemandsInvalid,
     // A list for floors that is shorter than that of the demands.
     FloorsTooShort,
-}
-
-pub fn number(r: Refusal) -> u32
-    ensures { λ n. ⌜ n ≡ numberOf r ⌝ }
-{
-    match r {
-        Refusal::BufferTooShort => 1,
-        Refusal::FileTooShort => 2,
-        Refusal::EditionUnknown => 3,
-        Refusal::CountOutOfRange => 4,
-        Refusal::DemandOutOfRange => 5,
-        Refusal::ContentsInvalid => 6,
-        Refusal::ZoneCountInvalid => 7,
-        Refusal::CoefficientOutOfRange => 8,
-        Refusal::LimitsInvalid => 9,
-        Refusal::RampOrMarkOutOfRange => 10,
-        Refusal::NoAllocation => 11,
-        Refusal::RowsInvalid => 12,
-        Refusal::FileBufferTooShort => 13,
-        Refusal::MultiplierOutOfRange => 14,
-        Refusal::ReplyMalformed => 15,
-        Refusal::RequestLengthInvalid => 16,
-        Refusal::AnswerTooShort => 17,
-        Refusal::LossesOutOfRange => 18,
-        Refusal::OutputCountInvalid => 19,
-        Refusal::DemandsInvalid => 20,
-        Refusal::FloorsTooShort => 21,
-    }
 }
 
 // What checking finds.

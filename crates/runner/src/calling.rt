@@ -25,7 +25,7 @@ use rules::Unpacked;
 use sensitivity::Floored;
 
 fn print_refusal(r: Refusal) {
-    number(b"refused ", rules::number(r) as u64);
+    number(b"refused ", refusal_number::number(r) as u64);
 }
 
 // The refusal of a call that writes to a buffer, and whether the buffer kept its contents.

@@ -1,38 +1,31 @@
 -- Rule 20.10 of docs/SPECIFICATION.md: floors for other demands, case by case. Above each row stands the wrong rule that it shows. A lent list has 9 in each place, so that an untouched one shows.
 use Prim.Native.Nat.{ℕ, _+_, _*_}
 use mathlib.Core.List.{List, [], _∷_, _++_, map}
-use mathlib.Core.Path.{_≡_, refl}
+use mathlib.Core.Path.{refl}
 use lib.IntN.{ℤ, pos, negℤ}
 use lib.ListN.{length, replicate}
-use Rattle.fields.specs.Field.{numberAfter, signed, bytes, bytesOfEach}
-use Rattle.rules.specs.Lists.{each, over}
-use Rattle.rules.specs.Numbers.{total, dividedUp, greatestAt, natural}
-use Rattle.rules.specs.Unit.{zones, permitted, cost, linearFactor, net}
-use Rattle.rules.specs.Layout.{edgeOfBody, unitOfBody, bodyOfUnit, caseOf, contentsFrom, bodiesOf, fileOf}
-use Rattle.rules.specs.Refusal.{editionVerdict, headVerdict, contentsVerdict, zonesAscend, unitVerdict, bodyVerdict, fileVerdict, numberOf}
-use Rattle.rules.specs.Problem.{totalCost, totalNet, offer, problemOf}
-use Rattle.rules.specs.Choice.{pricedCost, preferredFrom, preferred, choices, lowered, selected, dualValue}
-use Rattle.rules.specs.Bisection.{step4, step3, search, greatestOutputs, solvable, found}
-use Rattle.rules.specs.Calls.{caseVerdict}
+use Rattle.rules.specs.Lists.{each}
+use Rattle.rules.specs.Layout.{fileOf}
+use Rattle.rules.specs.Refusal.{numberOf}
+use Rattle.rules.specs.Rows.{Row, Holds}
+use Rattle.rules.specs.Cases as cases
 use Rattle.rules.specs.CaseFiles.{u5, site, shortHead, otherEdition, noUnit, demandAbove, byteTooMany, noZone, linearCostAbove, edgeAtLeast, otherMark, put, withLinearLoss, U, lossy, marked, costing, priced-at, sharedEdgeFile}
 use Rattle.sensitivity.specs.declared.Floored.{Floored}
 use Rattle.sensitivity.specs.Floors.{dualFor, floorFor, floorsVerdict, floorsEnd, floored, panelFloored}
 
--- a call: the file, the demands, and how many places are lent
-pub record Call : Type 0 where
-  pub file : List ℕ
-  pub demands : List ℕ
-  pub room : ℕ
+pub data Call : Type 0 where
+  -- the file, the demands, and how many places are lent
+  ask : List ℕ → List ℕ → ℕ → Call
+  -- as C sees it: the lent list of answers comes last
+  panelAsk : List ℕ → List ℕ → ℕ → List ℤ → Call
 
 pub data Answer : Type 0 where
   -- how many floors are written, and the whole list
   writes : ℕ → List ℤ → Answer
   -- the refusal's number, and the whole list
   refuses : ℕ → List ℤ → Answer
-
-pub record Row : Type 0 where
-  pub call : Call
-  pub result : Answer
+  -- the number that C gets, the whole list, and the lent answers
+  returns : ℕ → List ℤ → List ℤ → Answer
 
 abbrev pub lent : ℕ → List ℤ
 lent room = replicate room (pos 9)
@@ -41,25 +34,25 @@ abbrev pub ofFloored : Floored → List ℤ → Answer
 ofFloored (Floored.Written n) floors = writes n floors
 ofFloored (Floored.Refused r) floors = refuses (numberOf r) floors
 
+-- what the rules give
 unfoldable pub answer : Call → Answer
-answer c = let r = floored (c .file) (c .demands) (lent (c .room)) in ofFloored (r .answer) (r .floors)
-
-abbrev pub ask : List ℕ → List ℕ → ℕ → Call
-ask file demands room = record { file = file; demands = demands; room = room }
+unfolding cases.answer dualFor floorFor floorsVerdict floorsEnd floored panelFloored
+answer (ask file demands room) = let r = floored file demands (lent room) in ofFloored (r .answer) (r .floors)
+answer (panelAsk file demands room answers) = let r = panelFloored file demands (lent room) answers in returns (r .number) (r .floors) (r .answers)
 
 -- as many places as demands, all written
 abbrev pub floors : List ℕ → List ℤ
 floors ns = map pos ns
 
 -- refused, with the list as it was
-abbrev pub refused : List ℕ → List ℕ → ℕ → ℕ → Row
+abbrev pub refused : List ℕ → List ℕ → ℕ → ℕ → Row Call Answer
 refused file demands room number = record { call = ask file demands room; result = refuses number (lent room) }
 
 -- a floor for each demand, in as many places
-abbrev pub written : List ℕ → List ℕ → List ℕ → Row
+abbrev pub written : List ℕ → List ℕ → List ℕ → Row Call Answer
 written file demands ns = record { call = ask file demands (length demands); result = writes (length demands) (floors ns) }
 
-unfoldable pub forecasts : List Row
+unfoldable pub forecasts : List (Row Call Answer)
 forecasts =
     -- the demands of the request; a refusal, or 0, where nothing covers
     written u5 (0 ∷ 5 ∷ 7 ∷ 10 ∷ 320000 ∷ []) (0 ∷ 77000 ∷ 119000 ∷ 200000 ∷ 20970864840000 ∷ [])
@@ -113,7 +106,7 @@ forecasts =
     ∷ written (withLinearLoss 0x00 0x98 0x96 0x80) (0 ∷ 4 ∷ 5 ∷ 6 ∷ 7 ∷ 9 ∷ 10 ∷ []) (0 ∷ 65200 ∷ 88200 ∷ 111800 ∷ 135800 ∷ 200000 ∷ 65736000 ∷ [])
     ∷ []
 
-unfoldable pub refusals : List Row
+unfoldable pub refusals : List (Row Call Answer)
 refusals =
     -- 97 demands accepted
     refused u5 (each 97 (λ k. k)) 97 20
@@ -169,45 +162,38 @@ refusals =
     ∷ refused (put 7 (0x0B ∷ []) u5) (5 ∷ []) 1 11
     ∷ []
 
-pub forecasts-hold : map (λ r. answer (r .call)) forecasts ≡ map (λ r. r .result) forecasts
-unfolding answer forecasts floored floorsVerdict floorsEnd floorFor dualFor numberAfter signed bytes bytesOfEach zones edgeOfBody unitOfBody bodyOfUnit caseOf contentsFrom bodiesOf fileOf editionVerdict headVerdict contentsVerdict zonesAscend unitVerdict bodyVerdict fileVerdict permitted cost linearFactor net totalCost totalNet offer problemOf pricedCost preferredFrom preferred total choices lowered selected dualValue dividedUp greatestAt step4 step3 search greatestOutputs solvable found natural caseVerdict u5 site withLinearLoss U lossy marked costing priced-at sharedEdgeFile
+pub forecasts-hold : Holds answer forecasts
+unfolding answer forecasts
 forecasts-hold = refl
 
-pub refusals-hold : map (λ r. answer (r .call)) refusals ≡ map (λ r. r .result) refusals
-unfolding answer refusals floored floorsVerdict floorsEnd numberAfter signed bytes bytesOfEach zones edgeOfBody unitOfBody caseOf editionVerdict headVerdict contentsVerdict zonesAscend unitVerdict bodyVerdict fileVerdict permitted linearFactor net totalNet offer problemOf greatestOutputs solvable natural caseVerdict u5 withLinearLoss shortHead otherEdition noUnit demandAbove byteTooMany noZone linearCostAbove edgeAtLeast otherMark
+pub refusals-hold : Holds answer refusals
+unfolding answer refusals
 refusals-hold = refl
 
--- ---- as C sees it: the number, the floors, and the list of answers
+-- ---- as C sees it
 
-pub record PanelRow : Type 0 where
-  pub call : Call
-  pub before : List ℤ
-  pub number : ℕ
-  pub floors : List ℤ
-  pub after : List ℤ
-
-unfoldable pub panelForms : List PanelRow
+unfoldable pub panelForms : List (Row Call Answer)
 panelForms =
     -- the number of floors returned, or not told; a second answer written
-    record { call = ask u5 (5 ∷ 7 ∷ []) 3; before = pos 8 ∷ pos 8 ∷ []; number = 0; floors = pos 77000 ∷ pos 119000 ∷ pos 9 ∷ []; after = pos 2 ∷ pos 8 ∷ [] }
+    record { call = panelAsk u5 (5 ∷ 7 ∷ []) 3 (pos 8 ∷ pos 8 ∷ []); result = returns 0 (pos 77000 ∷ pos 119000 ∷ pos 9 ∷ []) (pos 2 ∷ pos 8 ∷ []) }
     -- one place taken for none
-    ∷ record { call = ask u5 [] 0; before = negℤ (pos 8) ∷ []; number = 0; floors = []; after = pos 0 ∷ [] }
+    ∷ record { call = panelAsk u5 [] 0 (negℤ (pos 8) ∷ []); result = returns 0 [] (pos 0 ∷ []) }
     -- floors written before 1
-    ∷ record { call = ask u5 (5 ∷ []) 1; before = []; number = 1; floors = pos 9 ∷ []; after = [] }
+    ∷ record { call = panelAsk u5 (5 ∷ []) 1 []; result = returns 1 (pos 9 ∷ []) [] }
     -- 20 before 1
-    ∷ record { call = ask u5 (320001 ∷ []) 1; before = []; number = 1; floors = pos 9 ∷ []; after = [] }
+    ∷ record { call = panelAsk u5 (320001 ∷ []) 1 []; result = returns 1 (pos 9 ∷ []) [] }
     -- 21 before 1
-    ∷ record { call = ask u5 (5 ∷ []) 0; before = []; number = 1; floors = []; after = [] }
+    ∷ record { call = panelAsk u5 (5 ∷ []) 0 []; result = returns 1 [] [] }
     -- 2 before 1
-    ∷ record { call = ask shortHead [] 0; before = []; number = 1; floors = []; after = [] }
+    ∷ record { call = panelAsk shortHead [] 0 []; result = returns 1 [] [] }
     -- answers written at a refusal, 20
-    ∷ record { call = ask u5 (320001 ∷ []) 1; before = pos 8 ∷ []; number = 20; floors = pos 9 ∷ []; after = pos 8 ∷ [] }
+    ∷ record { call = panelAsk u5 (320001 ∷ []) 1 (pos 8 ∷ []); result = returns 20 (pos 9 ∷ []) (pos 8 ∷ []) }
     -- 21
-    ∷ record { call = ask u5 (5 ∷ []) 0; before = pos 8 ∷ []; number = 21; floors = []; after = pos 8 ∷ [] }
+    ∷ record { call = panelAsk u5 (5 ∷ []) 0 (pos 8 ∷ []); result = returns 21 [] (pos 8 ∷ []) }
     -- 11
-    ∷ record { call = ask (put 7 (0x0B ∷ []) u5) (5 ∷ []) 1; before = pos 8 ∷ []; number = 11; floors = pos 9 ∷ []; after = pos 8 ∷ [] }
+    ∷ record { call = panelAsk (put 7 (0x0B ∷ []) u5) (5 ∷ []) 1 (pos 8 ∷ []); result = returns 11 (pos 9 ∷ []) (pos 8 ∷ []) }
     ∷ []
 
-pub panel-forms-hold : map (λ r. panelFloored (r .call .file) (r .call .demands) (lent (r .call .room)) (r .before)) panelForms ≡ map (λ r. record { number = r .number; floors = r .floors; answers = r .after }) panelForms
-unfolding panelForms panelFloored floorsVerdict floorsEnd floorFor dualFor numberAfter signed bytes bytesOfEach zones edgeOfBody unitOfBody caseOf editionVerdict headVerdict contentsVerdict zonesAscend unitVerdict bodyVerdict fileVerdict permitted cost linearFactor net totalCost totalNet offer problemOf pricedCost preferredFrom preferred total choices lowered selected dualValue dividedUp greatestAt step4 step3 search greatestOutputs solvable found natural caseVerdict u5 shortHead
+pub panel-forms-hold : Holds answer panelForms
+unfolding answer panelForms
 panel-forms-hold = refl

@@ -1,14 +1,14 @@
 -- Rule 17.6 of docs/SPECIFICATION.md: files of one site at two demands (S-12), the lower demand's row first. Above each pair stands what it shows.
 use mathlib.Core.Bool.{true, false}
-use mathlib.Core.List.{List, [], _∷_, map}
+use mathlib.Core.List.{List, [], _∷_}
 use mathlib.Core.Path.{_≡_, refl}
 use Prim.Native.Nat.{ℕ}
 use lib.IntN.{pos}
 use lib.ListN.{replicate}
-use Rattle.fields.specs.Field.{numberAfter, signed}
-use Rattle.rules.specs.Layout.{edgeOfBody, unitOfBody, caseOf, fileOf, unitOfRow}
+use Rattle.rules.specs.Layout.{caseOf, fileOf, unitOfRow}
 use Rattle.rules.specs.Unit.{Unit}
-use Rattle.rules.specs.Cases.{Row, answer, buffer, reply, dispatch, price, refuses, values}
+use Rattle.rules.specs.Rows.{Row, Holds}
+use Rattle.rules.specs.Cases.{Call, Answer, answer, buffer, reply, dispatch, price, refuses, values}
 use Rattle.rules.specs.CaseFiles.{u5, put, withLinearLoss, U}
 use Rattle.rules.specs.Loads.{SameButDemand}
 
@@ -17,10 +17,10 @@ abbrev pub atDemand : ℕ → List ℕ → List ℕ
 atDemand d file = put 4 (0 ∷ 0 ∷ 0 ∷ d ∷ []) file
 
 -- U without its zone
-unfoldable pub zoneless : Unit
+abbrev pub zoneless : Unit
 zoneless = unitOfRow (0 ∷ 10000 ∷ 1000 ∷ 0 ∷ 2 ∷ 10 ∷ replicate 13 0)
 
-unfoldable pub loads : List Row
+unfoldable pub loads : List (Row Call Answer)
 loads =
     -- cost need not grow; gap, surplus and evaluations fall
     record { call = dispatch (atDemand 5 u5); result = reply (7 ∷ []) 119000 42000 18 200000000 }
@@ -56,13 +56,12 @@ loads =
 
 -- such a pair of files: the same bytes but for the demand; and the same units in two editions
 pub same-but-demand : SameButDemand (atDemand 5 u5) (atDemand 7 u5)
-unfolding u5
 same-but-demand = record { before = refl; behind = refl }
 
 pub same-units : caseOf (atDemand 5 u5) .units ≡ caseOf (atDemand 6 (withLinearLoss 0x00 0x00 0x00 0x00)) .units
-unfolding caseOf unitOfBody edgeOfBody numberAfter signed u5 withLinearLoss
+unfolding answer
 same-units = refl
 
-pub loads-hold : map (λ r. answer (r .call)) loads ≡ map (λ r. r .result) loads
-unfolding answer loads u5 withLinearLoss U zoneless unitOfRow
+pub loads-hold : Holds answer loads
+unfolding answer loads
 loads-hold = refl

@@ -1,26 +1,27 @@
 -- Rule 17.5 of docs/SPECIFICATION.md: tied outputs and lowering (since S-6), case by case. Above each row stands the wrong rule that it shows.
 use Prim.Native.Nat.{ℕ}
 use mathlib.Core.Bool.{true, false}
-use mathlib.Core.List.{List, [], _∷_, _++_, map}
-use mathlib.Core.Path.{_≡_, refl}
+use mathlib.Core.List.{List, [], _∷_, _++_}
+use mathlib.Core.Path.{refl}
 use lib.IntN.{pos}
 use lib.ListN.{replicate, drop}
 use Rattle.rules.specs.Unit.{Unit}
 use Rattle.rules.specs.Layout.{fileOf, unitOfRow}
 use Rattle.rules.specs.Problem.{offer}
-use Rattle.rules.specs.Cases.{Row, answer, reply, dispatch, price, solveOffers, values, solves}
+use Rattle.rules.specs.Rows.{Row, Holds}
+use Rattle.rules.specs.Cases.{Call, Answer, answer, reply, dispatch, price, solveOffers, values, solves}
 use Rattle.rules.specs.CaseFiles.{put, withLinearLoss, unit, U, priced-at, marked, zoned, costing, largestLosses}
 
 -- U without its zone, with other costs and another mark
-unfoldable pub zoneless : ℕ → ℕ → ℕ → Unit
+abbrev pub zoneless : ℕ → ℕ → ℕ → Unit
 zoneless c1 c2 mark = unitOfRow (0 ∷ c1 ∷ c2 ∷ 0 ∷ 2 ∷ 10 ∷ 0 ∷ 0 ∷ 0 ∷ mark ∷ 0 ∷ replicate 8 0)
 
 -- U that costs the same at every running output, so much that standing ties with 10 at 65,536
-unfoldable pub constant : Unit
+abbrev pub constant : Unit
 constant = costing 655360000 0 0 0
 
 -- a unit with one permitted output, 1, and losses
-unfoldable pub fixed : Unit
+abbrev pub fixed : Unit
 fixed = unitOfRow (0 ∷ 10000 ∷ 1000 ∷ 1 ∷ 1 ∷ 10 ∷ 1 ∷ 0 ∷ 0 ∷ 1 ∷ 0 ∷ replicate 8 0)
 
 -- two files of edition 2 with one unit each (`CaseFiles.withLinearLoss`) as one, with demand d
@@ -28,7 +29,7 @@ abbrev pub pair2 : ℕ → List ℕ → List ℕ → List ℕ
 pair2 d first second =
     (0x00 ∷ 0x02 ∷ 0x00 ∷ 0x02 ∷ 0x00 ∷ 0x00 ∷ 0x00 ∷ d ∷ 0x00 ∷ 0x10 ∷ 0x00 ∷ 0x22 ∷ 0x00 ∷ 0x32 ∷ 0x00 ∷ 0x22 ∷ []) ++ drop 12 first ++ drop 12 second
 
-unfoldable pub lowerings : List Row
+unfoldable pub lowerings : List (Row Call Answer)
 lowerings =
     -- all lowered, or none: of 2 and 3, which tie at 15, one unit takes 2
     record { call = dispatch (fileOf 8 (U ∷ U ∷ U ∷ [])); result = reply (2 ∷ 3 ∷ 3 ∷ []) 102000 0 18 0 }
@@ -130,6 +131,6 @@ lowerings =
     ∷ record { call = solveOffers 9999 (record { unit = largestLosses .unit; outputs = 9000 ∷ 10000 ∷ [] } ∷ largestLosses ∷ []); result = solves (10000 ∷ 10000 ∷ []) 400000000000 25848718892 2 100000000 }
     ∷ []
 
-pub lowerings-hold : map (λ r. answer (r .call)) lowerings ≡ map (λ r. r .result) lowerings
-unfolding answer lowerings U priced-at marked zoned costing zoneless constant fixed withLinearLoss unitOfRow largestLosses offer
+pub lowerings-hold : Holds answer lowerings
+unfolding answer lowerings
 lowerings-hold = refl

@@ -1,12 +1,13 @@
 -- Rule 17.7 of docs/SPECIFICATION.md: zones that share an edge (since S-13), case by case. Above each row stands the wrong rule that it shows.
-use mathlib.Core.List.{List, [], _∷_, map}
-use mathlib.Core.Path.{_≡_, refl}
+use mathlib.Core.List.{List, [], _∷_}
+use mathlib.Core.Path.{refl}
 use Rattle.rules.specs.Lists.{over}
-use Rattle.rules.specs.Layout.{fileOf, unitOfRow}
-use Rattle.rules.specs.Cases.{Row, answer, buffer, reply, dispatch, pack, check, unpackInto, divide, writes, refuses, checks, reads, divides}
-use Rattle.rules.specs.CaseFiles.{u5, put, rowOfU, rowsBuffer, inEdition2, withZones, sharedEdge, sharedEdgeFile}
+use Rattle.rules.specs.Layout.{fileOf}
+use Rattle.rules.specs.Rows.{Row, Holds}
+use Rattle.rules.specs.Cases.{Call, Answer, answer, buffer, reply, dispatch, pack, check, unpackInto, divide, writes, refuses, checks, reads, divides}
+use Rattle.rules.specs.CaseFiles.{put, rowOfU, rowsBuffer, inEdition2, withZones, sharedEdge, sharedEdgeFile}
 
-unfoldable pub sharedEdges : List Row
+unfoldable pub sharedEdges : List (Row Call Answer)
 sharedEdges =
     -- number 9 at a shared edge, or the edge prohibited
     record { call = dispatch (sharedEdgeFile 7); result = reply (7 ∷ []) 119000 0 15 0 }
@@ -40,7 +41,7 @@ sharedEdges =
     ∷ []
 
 -- number 9, as before, and the numbers around it
-unfoldable pub edgesRefused : List Row
+unfoldable pub edgesRefused : List (Row Call Answer)
 edgesRefused =
     -- an upper edge equal to its lower edge
     record { call = check (fileOf 5 (withZones 2 (4 ∷ 7 ∷ 7 ∷ 7 ∷ []) 0 0 0 0 ∷ [])); result = checks 9 }
@@ -63,10 +64,10 @@ edgesRefused =
     ∷ record { call = check (put 12 (0x3B ∷ 0x9A ∷ 0xCA ∷ 0x01 ∷ []) (sharedEdgeFile 5)); result = checks 8 }
     ∷ []
 
-pub shared-edges-hold : map (λ r. answer (r .call)) sharedEdges ≡ map (λ r. r .result) sharedEdges
-unfolding answer sharedEdges u5 rowOfU unitOfRow withZones sharedEdge sharedEdgeFile
+pub shared-edges-hold : Holds answer sharedEdges
+unfolding answer sharedEdges
 shared-edges-hold = refl
 
-pub edges-refused-hold : map (λ r. answer (r .call)) edgesRefused ≡ map (λ r. r .result) edgesRefused
-unfolding answer edgesRefused u5 rowOfU withZones sharedEdgeFile
+pub edges-refused-hold : Holds answer edgesRefused
+unfolding answer edgesRefused
 edges-refused-hold = refl

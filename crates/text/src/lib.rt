@@ -105,7 +105,7 @@ pub fn write_text(text: &mut [u8], answer: Dispatched, reply: &[u8]) -> usize
     match answer {
         Dispatched::Replied(n) => put_reply(text, &reply[..n]),
         Dispatched::Refused(r) => {
-            let p = put_field(text, 0, b"refused ", rules::number(r) as u64);
+            let p = put_field(text, 0, b"refused ", refusal_number::number(r) as u64);
             put_word(text, p, b"\n")
         }
     }

@@ -6,8 +6,7 @@ use denote.Ref.{now}
 use borrow.Author.Needs.{needs}
 use Rattle.fields.proofs.Integers.{is-same}
 use Rattle.evaluation.specs.Contracts.{First}
-use Rattle.evaluation.proofs.Covering.{first-found, first-refused}
-use Rattle.evaluation.proofs.Covering.{multiplier-refused, case-refused, dualable, valued}
+use Rattle.evaluation.proofs.Covering.{first-found, first-refused, multiplier-refused, case-refused, dualable, valued}
 use Rattle.pricing.proofs.price.Statement.{statement}
 use Rattle.pricing.proofs.price.Tie as tie
 

@@ -1,9 +1,9 @@
--- `rules::number` meets its contract: each variant is known, and has its number.
+-- `refusal_number::number` meets its contract: each variant is known, and has its number.
 use mathlib.Core.Path.{sym, ap}
 use borrow.Author.Needs.{needs}
 use Rattle.rules.specs.Refusal.{numberOf}
-use Rattle.rules.proofs.number.Statement.{statement}
-use Rattle.rules.proofs.number.Tie as tie
+use Rattle.refusal_number.proofs.number.Statement.{statement}
+use Rattle.refusal_number.proofs.number.Tie as tie
 
 pub number-spec : {M : Type 1} → statement M
 number-spec =
