@@ -6,7 +6,7 @@ use Rattle.rules.specs.Bisection.{greatestOutputs}
 use Rattle.rules.proofs.Demand3.{case-accepted}
 use Rattle.evaluation.specs.Contracts.{HoldsOutputs, First}
 use Rattle.bisection.specs.declared.steps.Allocation as code-allocation
-use Rattle.bisection.specs.Contracts.{Holding, Solving}
+use Rattle.bisection.specs.Contracts.{Holding, FirstHeld}
 
 module _ {file coefficients ends ranges outputs : List ℕ} {n t c w : ℕ} (f : First file coefficients ends ranges outputs n t c w) where
   pub holding : Holding coefficients ends ranges n t (problemIn file)
@@ -16,5 +16,5 @@ module _ {file coefficients ends ranges outputs : List ℕ} {n t c w : ℕ} (f :
   unfolding greatestOutputs
   greatest-held = f .allocates .held (problemIn file) (f .site .holds)
 
-  pub solving : Solving coefficients ends ranges n t (record { outputs = outputs; cost = c; net = w })
+  pub solving : FirstHeld coefficients ends ranges n t (record { outputs = outputs; cost = c; net = w })
   solving = record { problem = problemIn file; holds = holding; solves = case-accepted file (f .accepted) .1; sized = f .allocates .sized; greatest = greatest-held }

@@ -1,4 +1,4 @@
--- What the search holds: for every problem that the arrays of a site hold, the best allocation, the greatest floor and the number of the evaluations that the steps of rules 11.3 to 11.11 make; and a trace of these, each multiplier with its dual value (rule 20.3).
+-- What the search asks and holds, and what its callers know before and after it (`FirstHeld`, `Measurable`): for every problem that the arrays of a site hold, the best allocation, the greatest floor and the number of the evaluations that the steps of rules 11.3 to 11.11 make; and a trace of these, each multiplier with its dual value (rule 20.3).
 use Prim.Native.Nat.{ℕ, _+_, _*_, _^_, _≤_}
 use mathlib.Core.Path.{_≡_}
 use mathlib.Core.Bool.{cond, true}
@@ -136,10 +136,10 @@ pub record Searches (H : Problem → Type 0) (n : ℕ) (first : code-allocation.
   pub few : r .evaluations ≤ 18
   pub held : (q : Problem) → H q → HoldsOutputs q (greatestOutputs q) (first .outputs) (sumsOf first) → HoldsTraced q (found q) r trace
 
--- ---- what dispatch and judging know before they search, and a cost and a floor of which `distance` takes the difference
+-- ---- what is known before a search (crates `solving` and `judging` ask it), and a cost and a floor of which `distance` takes the difference
 
 -- the arrays hold a problem that step 1 accepts, and its first best
-pub record Solving (coefficients ends ranges : List ℕ) (n t : ℕ) (first : code-allocation.Allocation) : Type 0 where
+pub record FirstHeld (coefficients ends ranges : List ℕ) (n t : ℕ) (first : code-allocation.Allocation) : Type 0 where
   pub problem : Problem
   pub holds : Holding coefficients ends ranges n t problem
   pub solves : solvable problem ≡ true

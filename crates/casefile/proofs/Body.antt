@@ -19,7 +19,7 @@ use Rattle.rules.proofs.Lists.{getD-each}
 use Rattle.rules.proofs.Verdicts.{or-false, not-is-false}
 use Rattle.rules.proofs.Sound.{zero-unused}
 use Rattle.rules.proofs.Encoding.Body.{edges-start, sound-body}
-use Rattle.reading.specs.Contracts.{BodyFits}
+use Rattle.bodies.specs.Contracts.{BodyFits}
 use Rattle.casefile.proofs.Head.{or-true}
 
 edge-unused : (e : ℕ) (s : List ℕ) (z k : ℕ) → 2 * z ≤ k → edgeOfBody e s z k ≡ 0

@@ -8,7 +8,7 @@ use Rattle.rules.specs.Refusal.{inOrder, headVerdict, contentsVerdict, bodyVerd
 use Rattle.rules.specs.declared.Refusal.{Refusal}
 use Rattle.rules.specs.declared.Verdict.the-variants.{Accepted, Refused}
 use Rattle.rules.proofs.Encoding.SoundFile.{sound-file}
-use Rattle.reading.specs.Contracts.{BodyFits}
+use Rattle.bodies.specs.Contracts.{BodyFits}
 use Rattle.casefile.specs.Contracts.{BodyInside, HeadRead}
 use Rattle.casefile.proofs.Body.{verdictAt, body-accepted}
 use Rattle.casefile.proofs.Contents.{inside}

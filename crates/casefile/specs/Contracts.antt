@@ -8,7 +8,7 @@ use Rattle.rules.specs.Layout.{count, offset, size}
 use Rattle.rules.specs.Refusal.{bodyVerdict}
 use Rattle.rules.specs.declared.Refusal.{Refusal}
 use Rattle.rules.specs.declared.Verdict.{Verdict}
-use Rattle.reading.specs.Contracts.{BodyFits}
+use Rattle.bodies.specs.Contracts.{BodyFits}
 
 -- Whether a body of edition e fits its zone count: one that does not is refused.
 pub record FitTold (e : ℕ) (s : List ℕ) (r : Bool) : Type 0 where

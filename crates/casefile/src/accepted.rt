@@ -5,7 +5,7 @@ ghost use Rattle.rules.specs.Layout.{count, demand, unitAt};
 ghost use Rattle.rules.specs.Refusal.{fileVerdict};
 ghost use Rattle.unit.specs.UnitHeld.{unitHeld};
 use crate::checking::body_of;
-use reading::read_body;
+use bodies::read_body;
 use rules::Verdict;
 use unit::Unit;
 

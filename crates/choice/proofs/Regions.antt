@@ -56,7 +56,7 @@ module _ {ends : List ℕ} {begin end : ℕ} (r : Regions ends begin end) where
   pub highest : Within ends begin end (high ends end)
   highest = record { region = end; from = r .some; to = omega arith; inside = record { from = r .ascending .order end (r .some) (omega arith); to = omega arith } }
 
-  -- positivePart to a region or from the next one on
+  -- up to a region or from the next one on
   pub parted : (k : ℕ) → begin ≤ k → k < end → (p : ℕ) → Within ends begin end p → (p ≤ high ends k) ⊎ (low ends (k + 1) ≤ p)
   parted k f h p w = by (decLe (w .region) k)
     where

@@ -18,7 +18,8 @@ use Rattle.rules.specs.Sound.{Sound}
 use Rattle.rules.proofs.Economics.Quantities.{factor, cost-running, cost-standing, net-whole, priced-is}
 use Rattle.site.specs.Site.{factorAt, c0At, c1At, c2At, bAt, Coefficients}
 use Rattle.curve.specs.declared.Curve as code
-use Rattle.curve.specs.Curve.{height, pricedAt, IsCurve, InRange, Valley, AtOutput, AtMultiplier}
+use Rattle.curve.specs.Curve.{height, pricedAt, IsCurve, InRange, Valley}
+use Rattle.curve.specs.Contracts.{AtOutput, AtMultiplier}
 
 -- ---- numbers in range
 
@@ -150,7 +151,7 @@ priced-curve {m} {u} {c} s k p h = by (ℕ-discrete p 0)
         rw e (priced-standing c ∙ same (is-pos 0) (priced-is m u 0) (omega (arith, cost-standing u, ap (λ (n : ℕ). m * n) none)))
     by (no n) = priced-running c p (omega arith) ∙ running-curve s k p (omega arith) h
 
--- ---- its steps: it does not rise positivePart to v, if the step into v does not, and rises from v, if the step out of v does
+-- ---- its steps: it does not rise up to v, if the step into v does not, and rises from v, if the step out of v does
 
 module _ (c : code.Curve) where
   abbrev a : ℕ

@@ -2,13 +2,11 @@
 use Prim.Native.Nat.{ℕ, _+_, _*_, _≤_, _<_}
 use mathlib.Core.Path.{_≡_}
 use mathlib.Core.Bool.{cond}
-use mathlib.Core.List.{List}
 use lib.Dec.{eqb}
 use lib.IntN.{ℤ, pos, subℕ}
 use lib.Signed.{_<ℤ_}
 use Rattle.rules.specs.Unit.{Unit, linearFactor}
 use Rattle.fields.specs.Integers.{positivePart, negativePart, Is}
-use Rattle.site.specs.Site.{Coefficients}
 use Rattle.curve.specs.declared.Curve.{Curve}
 
 -- the curve's value at p
@@ -36,17 +34,3 @@ pub record InRange (c : Curve) : Type 0 where
 pub record Valley (f : ℕ → ℤ) (from to v : ℕ) : Type 0 where
   pub falls : (p q : ℕ) → from ≤ p → p < q → q ≤ to → q < v → f q <ℤ f p
   pub rises : (p q : ℕ) → from ≤ p → p < q → q ≤ to → v ≤ p → f p <ℤ f q
-
--- ---- unit i of the arrays, which is some unit's, at an output and at a multiplier
-
-pub record AtOutput (coefficients : List ℕ) (i p : ℕ) : Type 0 where
-  pub few : i < 32
-  pub output : p ≤ 10000
-  pub unit : Unit
-  pub holds : Coefficients coefficients i unit
-
-pub record AtMultiplier (coefficients : List ℕ) (i m : ℕ) : Type 0 where
-  pub few : i < 32
-  pub multiplier : m ≤ 65536
-  pub unit : Unit
-  pub holds : Coefficients coefficients i unit

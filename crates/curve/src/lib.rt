@@ -4,7 +4,8 @@ ghost use mathlib.Core.Path.{_≡_};
 ghost use Prim.Native.Nat.{_≤_};
 ghost use Rattle.rules.specs.Unit.{Unit, cost, net};
 ghost use Rattle.site.specs.Site.{Coefficients};
-ghost use Rattle.curve.specs.Curve.{height, InRange, AtOutput, AtMultiplier, IsCurve};
+ghost use Rattle.curve.specs.Curve.{height, InRange, IsCurve};
+ghost use Rattle.curve.specs.Contracts.{AtOutput, AtMultiplier};
 
 // A unit's priced cost at a multiplier: square × p × p + linear × p + constant at a running output p.
 pub struct Curve {

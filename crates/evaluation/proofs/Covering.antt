@@ -20,9 +20,10 @@ use Rattle.rules.specs.declared.Priced.{Priced}
 use Rattle.rules.proofs.Lists.{every-from, all-every}
 use Rattle.fields.specs.Integers.{Is}
 use Rattle.rules.proofs.Economics.Chosen.{some-among}
-use Rattle.site.specs.Site.{noOffer, HoldsOffer, HoldsProblem, Site}
+use Rattle.site.specs.Site.{noOffer, HoldsOffer, HoldsProblem}
+use Rattle.site.specs.Contracts.{Site}
 use Rattle.evaluation.specs.declared.Sums as code
-use Rattle.evaluation.specs.Contracts.{Allocates, Dualable, Steps, First, FindsFirst}
+use Rattle.evaluation.specs.Contracts.{Allocates, Dualable, StepOne, First, FindsFirst}
 use Rattle.evaluation.specs.declared.FirstBest.{FirstBest}
 use Rattle.choice.proofs.Regions.{lowest}
 use Rattle.evaluation.proofs.Offers.{dual-held}
@@ -43,14 +44,14 @@ module _ {coefficients ends ranges : List ℕ} {n t : ℕ} {outputs : List ℕ} 
   unfolding solvable greatestOutputs
   solved q h d b e = rw (every-some h, ← d, ← a .held q h .net) e
 
-  pub uncovered : w < t → Steps coefficients ends ranges n t outputs (FirstBest.Refused NoAllocation)
+  pub uncovered : w < t → StepOne coefficients ends ranges n t outputs (FirstBest.Refused NoAllocation)
   uncovered k = record { refusal = refl; unsolved = λ q h d. solved q h d false (lt-leb t w k) }
 
-  pub covered : t ≤ w → Steps coefficients ends ranges n t outputs (FirstBest.Found n t c w)
+  pub covered : t ≤ w → StepOne coefficients ends ranges n t outputs (FirstBest.Found n t c w)
   covered k = record { count = refl; demanded = refl; allocates = a; solves = λ q h d. solved q h d true (le-leb t w k) }
 
 -- step 1 of the file whose problem the arrays hold
-pub of-file : {file coefficients ends ranges : List ℕ} {n t : ℕ} (s : Site file coefficients ends ranges n t) (outputs : List ℕ) (r : FirstBest) → Steps coefficients ends ranges n t outputs r → FindsFirst file coefficients ends ranges outputs r
+pub of-file : {file coefficients ends ranges : List ℕ} {n t : ℕ} (s : Site file coefficients ends ranges n t) (outputs : List ℕ) (r : FirstBest) → StepOne coefficients ends ranges n t outputs r → FindsFirst file coefficients ends ranges outputs r
 unfolding caseVerdict
 of-file {file} s outputs (FirstBest.Found n′ t′ c w) k = rw (k .count, k .demanded) (record { accepted = rw (s .accepted, k .solves (problemIn file) (s .holds) (s .demanded)); site = s; allocates = k .allocates })
 of-file {file} s outputs (FirstBest.Refused r) k = rw (k .refusal, s .accepted, k .unsolved (problemIn file) (s .holds) (s .demanded))

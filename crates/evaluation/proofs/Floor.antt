@@ -1,4 +1,4 @@
--- A quotient by 100,000 rounded positivePart, as a difference of two quotients of naturals, for `omega`.
+-- A quotient by 100,000 rounded up, as a difference of two quotients of naturals, for `omega`.
 use Prim.Native.Nat.{_+_, _/_}
 use native.Mathlib.Omega.{arith}
 use lib.IntN.{ℤ, pos, negsuc}

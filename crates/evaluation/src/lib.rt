@@ -1,11 +1,11 @@
 // All units of a decoded site (crate `site`) together: their choices (crate `choice`) with the sums, the dual value and its floor; and
-// step 1 on a file's bytes. Each number is in range on 64 bits and equal to what crate `rules` defines.
-mod files;
+// step 1, on the arrays and from a file's bytes. Each number is in range on 64 bits and equal to what crate `rules` defines.
+mod step_one;
 mod totals;
 
-pub use files::first_best;
-pub use files::step1;
 use rules::Refusal;
+pub use step_one::first_best;
+pub use step_one::step1;
 pub use totals::dual_of;
 pub use totals::evaluate;
 pub use totals::floor_of;

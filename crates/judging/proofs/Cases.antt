@@ -13,7 +13,7 @@ use Rattle.rules.specs.Problem.{totalCost, totalNet, problemOf}
 use Rattle.rules.specs.Choice.{greatestFloor}
 use Rattle.rules.specs.Bisection.{found}
 use Rattle.rules.specs.Calls.{caseVerdict}
-use Rattle.rules.specs.Rows.{Row, Holds}
+use Rattle.rules.specs.TableRows.{Row, Holds}
 use Rattle.rules.specs.Cases as cases
 use Rattle.rules.specs.declared.Refusal.the-variants.{BufferTooShort}
 use Rattle.rules.specs.declared.Verdict.{Verdict}

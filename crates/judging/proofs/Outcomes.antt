@@ -10,11 +10,12 @@ use Rattle.rules.specs.Layout.{caseOf}
 use Rattle.rules.specs.Problem.{Problem, offer, problemOf, problemIn, target}
 use Rattle.rules.specs.Offers.{Given}
 use Rattle.rules.proofs.Economics.Solution.{floor-at-most, greatest-floor-not-negative}
-use Rattle.site.specs.Site.{HoldsProblem, Site}
+use Rattle.site.specs.Site.{HoldsProblem}
+use Rattle.site.specs.Contracts.{Site}
 use Rattle.evaluation.proofs.Offers.{held-proper}
 use Rattle.bisection.specs.declared.steps.Allocation as code-allocation
 use Rattle.bisection.specs.declared.steps.Found as code-found
-use Rattle.bisection.specs.Contracts.{Holding, Searches, Measurable, Solving}
+use Rattle.bisection.specs.Contracts.{Holding, Searches, Measurable, FirstHeld}
 use Rattle.bisection.proofs.Starting.{holding, greatest-held}
 use Rattle.evaluation.specs.Contracts.{First}
 use Rattle.judging.specs.declared.Judged.{Judged}
@@ -29,7 +30,7 @@ module _ {coefficients ends ranges : List ℕ} {n t : ℕ} {first : code-allocat
     uncovered short q h g a k = omega (arith, s .held q (h .problem) .net)
 
     module _ (covers : t ≤ w) {f : code-found.Found} {trace : List ℤ} (found : Searches (Holding coefficients ends ranges n t) n first f trace) where
-      pub measurable : Solving coefficients ends ranges n t first → Measurable c (f .floor)
+      pub measurable : FirstHeld coefficients ends ranges n t first → Measurable c (f .floor)
       measurable v =
           let q = v .problem in
           let p = v .holds .problem in

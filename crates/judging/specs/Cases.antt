@@ -4,7 +4,7 @@ use mathlib.Core.List.{List, [], _∷_}
 use lib.IntN.{ℤ, pos, negℤ}
 use Rattle.rules.specs.Unit.{Unit}
 use Rattle.rules.specs.Layout.{fileOf}
-use Rattle.rules.specs.Rows.{Row}
+use Rattle.rules.specs.TableRows.{Row}
 use Rattle.rules.specs.CaseFiles.{u5, site, site2, put, shortHead, otherEdition, noUnit, demandAbove, byteTooMany, noZone, linearCostAbove, edgeAtLeast, otherMark, withLinearLoss, U, lossy, marked, costing, sharedEdgeFile}
 use Rattle.rules.specs.declared.Refusal.the-variants.{
   FileTooShort,

@@ -6,7 +6,7 @@ ghost use mathlib.Core.Bool.{_&&_};
 ghost use Prim.Native.Nat.{_<_};
 ghost use lib.Dec.{leb};
 ghost use lib.ListN.{length};
-ghost use Rattle.bisection.specs.Contracts.{Solving};
+ghost use Rattle.bisection.specs.Contracts.{FirstHeld};
 ghost use Rattle.judging.specs.Judging.{judged};
 ghost use Rattle.judging.specs.Contracts.{LiesTold, Summable, SumTold, JudgedHeld};
 use bisection::Allocation;
@@ -93,7 +93,7 @@ fn judge_outputs(
     first: Allocation,
     outputs: &[u32],
 ) -> Judged
-    requires { ⌜ Solving (now coefficients) (now ends) (now ranges) n target first × (length (now outputs) ≡ n) ⌝ }
+    requires { ⌜ FirstHeld (now coefficients) (now ends) (now ranges) n target first × (length (now outputs) ≡ n) ⌝ }
     ensures { λ r. ⌜ JudgedHeld (now (coefficients .entry)) (now (ends .entry)) (now (ranges .entry)) n target first (now (outputs .entry)) r ⌝ }
 {
     let sums = sum_outputs(coefficients, ends, ranges, n, outputs);

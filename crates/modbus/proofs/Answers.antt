@@ -19,7 +19,7 @@ use Rattle.rules.specs.declared.Refusal.the-variants.{BufferTooShort, ReplyMalf
 use Rattle.rules.proofs.Verdicts.{accepts}
 use Rattle.modbus.specs.declared.Viewed.{Viewed}
 use Rattle.modbus.specs.View.{Request, requestOf, units, values, exceptionTo, exceptionAnswer, normalAnswer, registerCount, malformed, answerOf, viewVerdict, viewEnds, ViewResult, viewed, numberOfViewed, lengthsOfViewed, panelViewed}
-use Rattle.modbus.specs.Contracts.{Written}
+use Rattle.modbus.specs.Contracts.{AnswerWritten}
 use Rattle.modbus.specs.Registers.{Served}
 
 -- ---- the reply
@@ -78,7 +78,7 @@ module _ (reply request answer : List ℕ) where
       unfolding viewed viewVerdict viewEnds
       answer-refused h = rw (e, eq-eqb (length request) 5 five, lt-ltb (length answer) 252 h)
 
-      pub answered : 252 ≤ length answer → {start quantity : ℕ} → start ≡ field request 1 2 → quantity ≡ field request 3 2 → {bytes : List ℕ} {n : ℕ} → Written reply (record { function = getD request 0 0; start = start; quantity = quantity }) answer bytes n → viewed reply request answer ≡ record { answer = Viewed.Answered n; bytes = bytes }
+      pub answered : 252 ≤ length answer → {start quantity : ℕ} → start ≡ field request 1 2 → quantity ≡ field request 3 2 → {bytes : List ℕ} {n : ℕ} → AnswerWritten reply (record { function = getD request 0 0; start = start; quantity = quantity }) answer bytes n → viewed reply request answer ≡ record { answer = Viewed.Answered n; bytes = bytes }
       unfolding viewed viewVerdict viewEnds
       answered h s k w = let v = rw (s, k) at w in rw (e, eq-eqb (length request) 5 five, le-ltb (length answer) 252 h, v .length-is, v .bytes-are)
 
@@ -166,10 +166,10 @@ module _ (reply : List ℕ) (e : malformed reply ≡ false) where
     pub inside-reply : code ≡ 0 → 2 * (q .start + q .quantity) ≤ length reply
     inside-reply z = omega (arith, registers-there z .within, w .long)
 
-    pub exception-written : (code ≡ 0 → ⊥) → {before after : List ℕ} {n : ℕ} → (n ≡ 2) × (after ≡ over (exceptionAnswer (q .function) code) before) → Written reply q before after n
+    pub exception-written : (code ≡ 0 → ⊥) → {before after : List ℕ} {n : ℕ} → (n ≡ 2) × (after ≡ over (exceptionAnswer (q .function) code) before) → AnswerWritten reply q before after n
     exception-written n (l, b) = let a = with-exception reply q by-count n in record { length-is = rw (a, l); bytes-are = rw (a, b) }
 
-    pub values-written : code ≡ 0 → {before after : List ℕ} {n : ℕ} → (n ≡ 2 + 2 * q .quantity) × (after ≡ over (normalAnswer reply q) before) → Written reply q before after n
+    pub values-written : code ≡ 0 → {before after : List ℕ} {n : ℕ} → (n ≡ 2 + 2 * q .quantity) × (after ≡ over (normalAnswer reply q) before) → AnswerWritten reply q before after n
     values-written z (l, b) =
         let a = without-exception reply q (sym by-count ∙ z) in
         record { length-is = rw (a, l) (omega (arith, length-values reply q (inside-reply z))); bytes-are = rw (a, b) }

@@ -6,6 +6,6 @@ use lib.ListN.{length}
 use Rattle.rules.specs.Lists.{over}
 use Rattle.modbus.specs.View.{Request, answerOf}
 
-pub record Written (reply : List ℕ) (q : Request) (before after : List ℕ) (written : ℕ) : Type 0 where
+pub record AnswerWritten (reply : List ℕ) (q : Request) (before after : List ℕ) (written : ℕ) : Type 0 where
   pub length-is : written ≡ length (answerOf reply q)
   pub bytes-are : after ≡ over (answerOf reply q) before

@@ -6,7 +6,7 @@ use lib.IntN.{ℤ, pos}
 use lib.ListN.{length, replicate, take, drop}
 use Rattle.fields.specs.Field.{numberAfter}
 use Rattle.rules.specs.Refusal.{numberOf}
-use Rattle.rules.specs.Rows.{Row, Holds}
+use Rattle.rules.specs.TableRows.{Row, Holds}
 use Rattle.rules.specs.CaseFiles.{u5Reply, siteReply, put}
 use Rattle.modbus.specs.declared.Viewed.{Viewed}
 use Rattle.modbus.specs.View.{exceptionTo, answerOf, viewVerdict, viewEnds, viewed, panelViewed}

@@ -6,7 +6,7 @@ ghost use Prim.Native.Nat.{_+_, _*_, _≤_, _<_};
 ghost use lib.ListN.{length, take, drop};
 ghost use Rattle.rules.specs.Lists.{over};
 ghost use Rattle.modbus.specs.View.{exceptionTo, withTopBit, exceptionAnswer, normalAnswer, malformed, viewed};
-ghost use Rattle.modbus.specs.Contracts.{Written};
+ghost use Rattle.modbus.specs.Contracts.{AnswerWritten};
 use rules::Refusal;
 
 // What the view answers: the length of the answer that it wrote.
@@ -99,7 +99,7 @@ fn write_answer(
     answer: &mut [u8],
 ) -> usize
     requires { ⌜ (malformed (now reply) ≡ Bool.false) × (start < 65536) × (quantity < 65536) × (252 ≤ length (now answer)) ⌝ }
-    ensures { λ r. ⌜ Written (now (reply .entry)) (record { function = function; start = start; quantity = quantity }) (now (answer .entry)) (now (answer .exit)) r ⌝ }
+    ensures { λ r. ⌜ AnswerWritten (now (reply .entry)) (record { function = function; start = start; quantity = quantity }) (now (answer .entry)) (now (answer .exit)) r ⌝ }
 {
     let code = exception_to(reply.len() / 2, function, start, quantity);
     if code != 0 {

@@ -9,7 +9,7 @@ use Rattle.rules.specs.Lists.{all, Every}
 abbrev pub demandsInvalid : List ℕ → Bool
 demandsInvalid demands = ltb 96 (length demands) || not (all (λ d. leb d 320000) demands)
 
--- the others, as facts (`proofs/Demands` has that they are the same)
+-- the others, as facts (`proofs/Demands`: a list that is not invalid is one of them)
 pub record ValidDemands (demands : List ℕ) : Type 0 where
   pub few : length demands ≤ 96
   pub small : Every (λ d. d ≤ 320000) demands

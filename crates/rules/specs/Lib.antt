@@ -19,7 +19,7 @@ pub mod SharedEdges
 pub mod Promise
 pub mod Loads
 pub mod Lowering
-pub mod Rows
+pub mod TableRows
 pub mod Cases
 pub mod CaseFiles
 pub mod Table

@@ -8,7 +8,7 @@ use lib.IntN.{pos, negℤ}
 use lib.ListN.{replicate, drop}
 use Rattle.rules.specs.Lists.{each, over}
 use Rattle.rules.specs.Layout.{fileOf, unitOfRow}
-use Rattle.rules.specs.Rows.{Row, Holds}
+use Rattle.rules.specs.TableRows.{Row, Holds}
 use Rattle.rules.specs.Cases.{Call, Answer, answer, buffer, reply, dispatch, price, pack, check, dispatchInto, packInto, unpackInto, panelDispatch, panelPrice, panelPack, panelUnpack, allocate, searchFor, solveOffers, divide, writes, refuses, values, checks, reads, returns, allocates, finds, solves, divides}
 use Rattle.rules.specs.CaseFiles.{u5, u5Reply, site, siteReply, u10Reply, rowOfU, rowsOfSite, put, shortHead, otherMark, largestLosses, rowsBuffer, answers, unit, U, lossy, priced-at, marked, zoned, costing}
 

@@ -8,7 +8,7 @@ use lib.IntN.{pos, negℤ}
 use lib.ListN.{replicate, take, drop}
 use Rattle.fields.specs.Field.{bytesOfEach}
 use Rattle.rules.specs.Lists.{over, each}
-use Rattle.rules.specs.Rows.{Row, Holds}
+use Rattle.rules.specs.TableRows.{Row, Holds}
 use Rattle.rules.specs.Cases.{Call, Answer, answer, buffer, reply, dispatch, price, pack, check, unpackInto, panelDispatch, panelPrice, panelUnpack, writes, refuses, values, checks, returns}
 use Rattle.rules.specs.CaseFiles.{u5, u5Reply, rowOfU, atLimits, put, copies, withLinearLoss, site2, site2Reply, inEdition2, rowsBuffer, answers}
 

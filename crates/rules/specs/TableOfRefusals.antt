@@ -3,7 +3,7 @@ use mathlib.Core.List.{List, [], _∷_, _++_}
 use mathlib.Core.Path.{refl}
 use lib.ListN.{replicate, take}
 use Rattle.rules.specs.Layout.{fileOf}
-use Rattle.rules.specs.Rows.{Row, Holds}
+use Rattle.rules.specs.TableRows.{Row, Holds}
 use Rattle.rules.specs.Cases.{Call, Answer, answer, buffer, dispatch, price, pack, check, dispatchInto, packInto, unpackInto, writes, refuses, checks}
 use Rattle.rules.specs.CaseFiles.{u5, site, rowOfU, rowsOfSite, atLimits, put, copies, shortHead, otherEdition, noUnit, demandAbove, byteTooMany, noZone, linearCostAbove, edgeAtLeast, otherMark, rowsBuffer, U, zoned}
 

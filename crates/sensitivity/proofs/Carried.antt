@@ -1,4 +1,4 @@
--- A dual value carried to another demand: it is that of the same offers with that demand, so that weak duality bounds it; and rounding positivePart after the greatest is taken gives the same as before.
+-- A dual value carried to another demand: it is that of the same offers with that demand, so that weak duality bounds it; and rounding up after the greatest is taken gives the same as before.
 use Prim.Native.Nat.{ℕ, _+_, _*_, _≤_, _<_}
 use native.Mathlib.Nat.{mul-le-mul-left}
 use native.Mathlib.Omega.{arith}
@@ -55,7 +55,7 @@ dual-rises m q d e h = rw (dual-for m q d, dual-for m q e) (at-most (parts m q d
 pub dual-at-zero : (q : Problem) (d e : ℕ) → dualFor 0 q d ≡ dualFor 0 q e
 dual-at-zero q d e = rw (dual-for 0 q d, dual-for 0 q e) (same (parts 0 q d d) (parts 0 q e e) (omega arith))
 
--- ---- rounding positivePart, and the greatest
+-- ---- rounding up, and the greatest
 
 module _ (f : ℕ → ℤ) where
   abbrev up′ : ℤ → ℤ

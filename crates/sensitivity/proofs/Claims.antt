@@ -197,5 +197,5 @@ as-case (Verdict.Refused s) file demands buffer floors r = (λ e. let z : s ≡ 
 
 pub refuses-as-dispatch : RefusesAsDispatch floored
 unfolding floored floorsVerdict dispatched dispatchVerdict
-refuses-as-dispatch file demands buffer floors r few small room long =
-    rw (le-ltb 96 (length demands) few, small, le-ltb (length floors) (length demands) room, le-ltb (length buffer) 92 long) (as-case (caseVerdict file) file demands buffer floors r)
+refuses-as-dispatch file demands buffer floors r valid room long =
+    rw (valid, le-ltb (length floors) (length demands) room, le-ltb (length buffer) 92 long) (as-case (caseVerdict file) file demands buffer floors r)

@@ -7,7 +7,7 @@ use lib.ListN.{length, replicate}
 use Rattle.rules.specs.Lists.{each}
 use Rattle.rules.specs.Layout.{fileOf}
 use Rattle.rules.specs.Refusal.{numberOf}
-use Rattle.rules.specs.Rows.{Row, Holds}
+use Rattle.rules.specs.TableRows.{Row, Holds}
 use Rattle.rules.specs.Cases as cases
 use Rattle.rules.specs.CaseFiles.{u5, site, shortHead, otherEdition, noUnit, demandAbove, byteTooMany, noZone, linearCostAbove, edgeAtLeast, otherMark, put, withLinearLoss, U, lossy, marked, costing, priced-at, sharedEdgeFile}
 use Rattle.sensitivity.specs.declared.Floored.{Floored}

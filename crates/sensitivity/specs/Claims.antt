@@ -1,14 +1,13 @@
 -- Rules 20.2, 20.3 and 20.5 to 20.9 of docs/SPECIFICATION.md: what holds of every floor that the call writes, and what it refuses, as statements. (They are proved in proofs/Claims.)
 use Prim.Native.Nat.{ℕ, _≤_, _<_}
-use mathlib.Core.Bool.{true}
+use mathlib.Core.Bool.{true, false}
 use mathlib.Core.List.{List, [], _∷_}
 use mathlib.Core.Path.{_≡_}
 use mathlib.Core.Logic.{_↔_}
-use lib.Dec.{leb}
 use lib.IntN.{ℤ, pos}
 use lib.ListN.{length, getD}
 use lib.Signed.{_≤ℤ_}
-use Rattle.rules.specs.Lists.{all}
+use Rattle.rules.specs.Demands.{demandsInvalid}
 use Rattle.rules.specs.Layout.{Case, caseOf}
 use Rattle.rules.specs.Problem.{Problem, totalCost, totalNet, covers, problemIn}
 use Rattle.rules.specs.Choice.{dualValue, greatestFloor}
@@ -90,8 +89,7 @@ ToldInC inC call =
 abbrev pub RefusesAsDispatch : (List ℕ → List ℕ → List ℤ → FloorsResult) → Type 0
 RefusesAsDispatch call =
     (file demands buffer : List ℕ) (floors : List ℤ) (r : Refusal)
-    → length demands ≤ 96
-    → all (λ d. leb d 320000) demands ≡ true
+    → demandsInvalid demands ≡ false
     → length demands ≤ length floors
     → 92 ≤ length buffer
     → (call file demands floors .answer ≡ Floored.Refused r) ↔ (dispatched file buffer .answer ≡ Dispatched.Refused r)

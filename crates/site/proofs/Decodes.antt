@@ -20,7 +20,8 @@ use Rattle.rules.proofs.Each.{Checked, checked-starts, checked-ends, checked-re
 use Rattle.rules.proofs.Encoding.SoundFile.{sound-head}
 use Rattle.casefile.proofs.Body.{verdictAt}
 use Rattle.casefile.proofs.File.{file-head, file-contents, file-bodies}
-use Rattle.site.specs.Site.{noOffer, Site}
+use Rattle.site.specs.Site.{noOffer}
+use Rattle.site.specs.Contracts.{Site}
 use Rattle.site.specs.Contracts.{BodiesNamed}
 use Rattle.site.proofs.UnitsWritten.{UnitsWritten, Offering, units-start, problem-held, problem-unserved}
 

@@ -1,16 +1,18 @@
--- What each function requires and leaves while a site is written: a unit in its places of the arrays, and the other units kept.
+-- What each function requires and leaves while a site is written: a unit in its places of the arrays, and the other units kept; and what decoding a file gives.
 use Prim.Native.Nat.{ℕ, _+_, _*_, _<_}
 use mathlib.Core.Path.{_≡_}
 use mathlib.Core.Bool.{Bool, true, false}
 use mathlib.Core.List.{List, []}
 use Rattle.rules.specs.Unit.{Unit}
 use Rattle.rules.specs.Layout.{edition, count}
-use Rattle.rules.specs.Refusal.{headVerdict, contentsVerdict}
-use Rattle.rules.specs.Problem.{Offer, offer}
+use Rattle.rules.specs.Refusal.{headVerdict, contentsVerdict, fileVerdict}
+use Rattle.rules.specs.Problem.{Offer, offer, target, problemIn}
+use Rattle.rules.specs.Calls.{caseVerdict}
 use Rattle.rules.specs.declared.Verdict.{Verdict}
 use Rattle.rules.specs.Sound.{Sound}
 use Rattle.regions.specs.Contracts.{KeptOutside}
-use Rattle.site.specs.Site.{first, last, Coefficients, HoldsOffer}
+use Rattle.site.specs.Site.{first, last, Coefficients, HoldsOffer, HoldsProblem}
+use Rattle.site.specs.declared.Decoded.{Decoded}
 
 -- ---- one unit
 
@@ -42,3 +44,14 @@ pub record BodiesNamed (file : List ℕ) (e n : ℕ) : Type 0 where
   pub head : headVerdict file ≡ Verdict.Accepted
   pub contents : contentsVerdict file ≡ Verdict.Accepted
   pub units : n ≡ count file
+
+-- ---- what decoding a file gives: its problem in the arrays, where every unit has a permitted output; or the refusal of the case
+
+pub record Site (file coefficients ends ranges : List ℕ) (n t : ℕ) : Type 0 where
+  pub accepted : fileVerdict file ≡ Verdict.Accepted
+  pub demanded : t ≡ target (problemIn file)
+  pub holds : HoldsProblem coefficients ends ranges n (problemIn file)
+
+abbrev pub Decodes : List ℕ → List ℕ → List ℕ → List ℕ → Decoded → Type 0
+Decodes file coefficients ends ranges (Decoded.Site n t) = Site file coefficients ends ranges n t
+Decodes file coefficients ends ranges (Decoded.Refused r) = caseVerdict file ≡ Verdict.Refused r

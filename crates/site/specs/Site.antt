@@ -6,14 +6,10 @@ use mathlib.Core.Logic.{_↔_}
 use lib.IntN.{pos}
 use lib.ListN.{length, getD}
 use Rattle.rules.specs.Unit.{Unit, linearFactor}
-use Rattle.rules.specs.Refusal.{fileVerdict}
-use Rattle.rules.specs.Problem.{Offer, Problem, target, problemIn}
-use Rattle.rules.specs.Calls.{caseVerdict}
-use Rattle.rules.specs.declared.Verdict.{Verdict}
+use Rattle.rules.specs.Problem.{Offer, Problem}
 use Rattle.rules.specs.Sound.{Sound}
 use Rattle.rules.specs.Offers.{Among, Proper}
 use Rattle.regions.specs.Regions.{Ascending, Inside}
-use Rattle.site.specs.declared.Decoded.{Decoded}
 
 -- ---- the arrays by place
 
@@ -100,14 +96,3 @@ pub record HoldsProblem (coefficients ends ranges : List ℕ) (n : ℕ) (q : Pro
   pub few : n ≤ 32
   pub demand : q .demand ≤ 320000
   pub offers : (i : ℕ) → i < n → HoldsOffer coefficients ends ranges i (getD (q .offers) i noOffer)
-
--- ---- what decoding a file gives: its problem in the arrays, where every unit has a permitted output; or the refusal of the case
-
-pub record Site (file coefficients ends ranges : List ℕ) (n t : ℕ) : Type 0 where
-  pub accepted : fileVerdict file ≡ Verdict.Accepted
-  pub demanded : t ≡ target (problemIn file)
-  pub holds : HoldsProblem coefficients ends ranges n (problemIn file)
-
-abbrev pub Decodes : List ℕ → List ℕ → List ℕ → List ℕ → Decoded → Type 0
-Decodes file coefficients ends ranges (Decoded.Site n t) = Site file coefficients ends ranges n t
-Decodes file coefficients ends ranges (Decoded.Refused r) = caseVerdict file ≡ Verdict.Refused r

@@ -5,7 +5,7 @@ ghost use lib.ListN.{length};
 ghost use Rattle.rules.specs.Unit.{linearFactor};
 ghost use Rattle.rules.specs.Sound.{Sound};
 ghost use Rattle.unit.specs.UnitHeld.{unitHeld};
-ghost use Rattle.site.specs.Site.{Decodes};
+ghost use Rattle.site.specs.Contracts.{Decodes};
 ghost use Rattle.site.specs.Contracts.{UnitWritable, CoefficientsWritten, RangeWritten, UnitWritten, BodiesNamed};
 use crate::Decoded;
 use rules::Refusal;
@@ -83,7 +83,7 @@ fn decode_bodies(
         if !casefile::body_fits(body, edition) {
             return Decoded::Refused(Refusal::ZoneCountInvalid);
         }
-        let u = reading::read_body(body, edition);
+        let u = bodies::read_body(body, edition);
         let verdict = unit::check_numbers(u);
         if let Verdict::Refused(r) = verdict {
             return Decoded::Refused(r);

@@ -9,13 +9,13 @@ use Rattle.rules.proofs.Economics.Solution.{best-covers, floor-at-most-cost, gr
 use Rattle.evaluation.proofs.Offers.{held-proper}
 use Rattle.bisection.specs.declared.steps.Allocation as code-allocation
 use Rattle.bisection.specs.declared.steps.Found as code-found
-use Rattle.bisection.specs.Contracts.{Holding, Searches, Solving}
+use Rattle.bisection.specs.Contracts.{Holding, Searches, FirstHeld}
 use Rattle.solving.specs.declared.Reply as code-reply
 use Rattle.solving.specs.ReplyHeld.{replyHeld}
 use Rattle.solving.specs.Contracts.{Stateable, States, Solves}
 
 -- what the search found can be stated
-pub stateable : {coefficients ends ranges : List ℕ} {n t : ℕ} {first : code-allocation.Allocation} (s : Solving coefficients ends ranges n t first) {f : code-found.Found} {trace : List ℤ} → Searches (Holding coefficients ends ranges n t) n first f trace → Stateable t f
+pub stateable : {coefficients ends ranges : List ℕ} {n t : ℕ} {first : code-allocation.Allocation} (s : FirstHeld coefficients ends ranges n t first) {f : code-found.Found} {trace : List ℤ} → Searches (Holding coefficients ends ranges n t) n first f trace → Stateable t f
 stateable {t = t} s {f} {trace} h =
     let q = s .problem in
     let p = s .holds .problem in

@@ -1,6 +1,6 @@
 // The solution of a problem whose arrays are decoded, as a reply states it, before it is bytes: the search (crate `bisection`), and cost,
 // gap and surplus of what it found.
-ghost use Rattle.bisection.specs.Contracts.{Solving};
+ghost use Rattle.bisection.specs.Contracts.{FirstHeld};
 ghost use Rattle.solving.specs.Contracts.{Stateable, States, Solves};
 use bisection::Allocation;
 use bisection::Found;
@@ -43,7 +43,7 @@ pub fn solve(
     target: u64,
     first: Allocation,
 ) -> Reply
-    requires { ⌜ Solving (now coefficients) (now ends) (now ranges) n target first ⌝ }
+    requires { ⌜ FirstHeld (now coefficients) (now ends) (now ranges) n target first ⌝ }
     ensures { λ r. ⌜ Solves (now (coefficients .entry)) (now (ends .entry)) (now (ranges .entry)) n target first r ⌝ }
 {
     let mut trace = [0i64; 0];

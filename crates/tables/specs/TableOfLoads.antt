@@ -7,7 +7,7 @@ use lib.IntN.{pos}
 use lib.ListN.{replicate}
 use Rattle.rules.specs.Layout.{caseOf, fileOf, unitOfRow}
 use Rattle.rules.specs.Unit.{Unit}
-use Rattle.rules.specs.Rows.{Row, Holds}
+use Rattle.rules.specs.TableRows.{Row, Holds}
 use Rattle.rules.specs.Cases.{Call, Answer, answer, buffer, reply, dispatch, price, refuses, values}
 use Rattle.rules.specs.CaseFiles.{u5, put, withLinearLoss, U}
 use Rattle.rules.specs.Loads.{SameButDemand}

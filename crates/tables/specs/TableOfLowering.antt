@@ -8,7 +8,7 @@ use lib.ListN.{replicate, drop}
 use Rattle.rules.specs.Unit.{Unit}
 use Rattle.rules.specs.Layout.{fileOf, unitOfRow}
 use Rattle.rules.specs.Problem.{offer}
-use Rattle.rules.specs.Rows.{Row, Holds}
+use Rattle.rules.specs.TableRows.{Row, Holds}
 use Rattle.rules.specs.Cases.{Call, Answer, answer, reply, dispatch, price, solveOffers, values, solves}
 use Rattle.rules.specs.CaseFiles.{put, withLinearLoss, unit, U, priced-at, marked, zoned, costing, largestLosses}
 

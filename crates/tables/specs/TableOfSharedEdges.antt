@@ -3,7 +3,7 @@ use mathlib.Core.List.{List, [], _∷_}
 use mathlib.Core.Path.{refl}
 use Rattle.rules.specs.Lists.{over}
 use Rattle.rules.specs.Layout.{fileOf}
-use Rattle.rules.specs.Rows.{Row, Holds}
+use Rattle.rules.specs.TableRows.{Row, Holds}
 use Rattle.rules.specs.Cases.{Call, Answer, answer, buffer, reply, dispatch, pack, check, unpackInto, divide, writes, refuses, checks, reads, divides}
 use Rattle.rules.specs.CaseFiles.{put, rowOfU, rowsBuffer, inEdition2, withZones, sharedEdge, sharedEdgeFile}
 

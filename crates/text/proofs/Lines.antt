@@ -11,24 +11,8 @@ use Rattle.rules.specs.Lists.{over}
 use Rattle.rules.specs.Refusal.{numberOf}
 use Rattle.rules.specs.declared.Refusal.{Refusal}
 use Rattle.rules.specs.declared.Dispatched.{Dispatched}
-use Rattle.text.specs.Text.{
-  Put,
-  decimal,
-  unitsWord,
-  evaluationsWord,
-  costWord,
-  gapWord,
-  surplusWord,
-  refusedWord,
-  space,
-  lineFeed,
-  summaryLine,
-  outputLine,
-  outputLines,
-  refusedText,
-  replyText,
-  textOf,
-}
+use Rattle.text.specs.Text.{decimal, unitsWord, evaluationsWord, costWord, gapWord, surplusWord, refusedWord, space, lineFeed, summaryLine, outputLine, outputLines, refusedText, replyText, textOf}
+use Rattle.text.specs.Contracts.{Put}
 use Rattle.text.proofs.Putting.{put-more, put-over}
 
 none-before : (s : List ℕ) → 0 ≤ length s

@@ -8,7 +8,7 @@ use lib.ListN.{length, take, drop, set, length-append, take-append-drop}
 use lib.Seq.{length-take-le, take-length}
 use Rattle.rules.specs.Lists.{over}
 use Rattle.rules.proofs.Encoding.Front.{Front, lent, givenBack, front-part, front-set, front-tail}
-use Rattle.text.specs.Text.{Put}
+use Rattle.text.specs.Contracts.{Put}
 
 module _ {s₀ : List ℕ} {at : ℕ} (room : at ≤ length s₀) where
   front : {p s : List ℕ} {k : ℕ} → Put s₀ at p s k → Front s₀ (take at s₀ ++ p) s k

@@ -3,7 +3,7 @@ use mathlib.Core.List.{List, [], _∷_}
 use mathlib.Core.Path.{refl}
 use Prim.Native.Nat.{ℕ}
 use Rattle.rules.specs.Layout.{fileOf}
-use Rattle.rules.specs.Rows.{Row, Holds}
+use Rattle.rules.specs.TableRows.{Row, Holds}
 use Rattle.rules.specs.Cases.{answer}
 use Rattle.rules.specs.CaseFiles.{u5, U, zoned}
 use Rattle.text.specs.Text.{printed, textOf, refusedText, replyText, outputLines, outputLine, summaryLine, decimal, digits}

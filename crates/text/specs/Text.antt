@@ -1,10 +1,9 @@
 -- Rules 15.2 to 15.4 of docs/SPECIFICATION.md: the text of an answer, in ASCII.
-use Prim.Native.Nat.{ℕ, zero, suc, _+_, _-_, _*_, _/_, _%_, _≤_}
+use Prim.Native.Nat.{ℕ, zero, suc, _+_, _-_, _*_, _/_, _%_}
 use mathlib.Core.Bool.{cond}
 use mathlib.Core.List.{List, [], _∷_, _++_}
-use mathlib.Core.Path.{_≡_}
 use lib.Dec.{ltb}
-use lib.ListN.{length, take, drop, replicate}
+use lib.ListN.{length, take, replicate}
 use Rattle.fields.specs.Field.{field}
 use Rattle.rules.specs.Refusal.{numberOf}
 use Rattle.rules.specs.Calls.{dispatched}
@@ -95,14 +94,3 @@ textOf (Dispatched.Refused r) buffer = refusedText r
 -- what the program writes for a file: it lends dispatch 92 zeros
 unfoldable pub printed : List ℕ → List ℕ
 printed file = let r = dispatched file (replicate 92 0) in textOf (r .answer) (r .reply)
-
--- ---- what the code asks and does
-
--- a reply is of 28 to 92 bytes, all within the buffer
-abbrev pub ReplyFits : Dispatched → List ℕ → Type 0
-ReplyFits answer buffer = (n : ℕ) → answer ≡ Dispatched.Replied n → (28 ≤ n) × (n ≤ 92) × (n ≤ length buffer)
-
--- some bytes are put into a buffer from a place on, and the next place is behind them
-pub record Put (before : List ℕ) (at : ℕ) (put : List ℕ) (after : List ℕ) (next : ℕ) : Type 0 where
-  pub ends : next ≡ at + length put
-  pub whole : after ≡ take at before ++ (put ++ drop (at + length put) before)

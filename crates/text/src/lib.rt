@@ -5,7 +5,8 @@ ghost use Prim.Native.Nat.{_+_, _-_, _*_, _/_, _≤_, _<_};
 ghost use lib.ListN.{length};
 ghost use Rattle.fields.specs.Field.{field};
 ghost use Rattle.rules.specs.Lists.{over};
-ghost use Rattle.text.specs.Text.{ReplyFits, Put, decimal, lineFeed, outputLine, outputLines, replyText, summaryLine, textOf};
+ghost use Rattle.text.specs.Text.{decimal, lineFeed, outputLine, outputLines, replyText, summaryLine, textOf};
+ghost use Rattle.text.specs.Contracts.{ReplyFits, Put};
 use rules::Dispatched;
 
 fn put_word(text: &mut [u8], at: usize, word: &[u8]) -> usize

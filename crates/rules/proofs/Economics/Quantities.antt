@@ -1,4 +1,4 @@
--- The range of every quantity of a sound unit at an output positivePart to its greatest, and that net grows with the output. This file alone looks at what cost, net and the linear factor are made of; others cite `cost-running`, `cost-standing`, `net-is` and `factor`.
+-- The range of every quantity of a sound unit at an output up to its greatest, and that net grows with the output. This file alone looks at what cost, net and the linear factor are made of; others cite `cost-running`, `cost-standing`, `net-is` and `factor`.
 use mathlib.Core.Path.{_≡_, refl, _∙_}
 use Prim.Native.Nat.{ℕ, zero, suc, _+_, _*_, _-_, _≤_, _<_}
 use native.Mathlib.Nat.{add-zero, le-refl, mul-le-mul, mul-le-mul-right}
@@ -94,7 +94,7 @@ pub priced-is : (m : ℕ) (u : Unit) (p : ℕ) → Is (pricedCost m u p) (100000
 unfolding pricedCost
 priced-is m u p = is-sub (100000 * cost u p) (m * net u p)
 
--- net grows with the output: each step more, positivePart to output 10,000, nets more
+-- net grows with the output: each step more, up to output 10,000, nets more
 pub net-grows : {u : Unit} → SoundLosses u → (p j : ℕ) → p + j ≤ 10000 → net u p + j ≤ net u (p + j)
 unfolding net
 net-grows {u} s p zero h = rw (add-zero p) (omega arith)

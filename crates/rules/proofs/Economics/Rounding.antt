@@ -1,4 +1,4 @@
--- A quotient rounded positivePart is the least integer whose multiple by the divisor is not below the dividend; its other laws follow from that.
+-- A quotient rounded up is the least integer whose multiple by the divisor is not below the dividend; its other laws follow from that.
 use mathlib.Core.Path.{_≡_, refl, ap}
 use Prim.Native.Nat.{ℕ, zero, suc, _+_, _*_, _-_, _/_, _≤_, _<_}
 use native.Mathlib.Nat.{lt-mul-div-succ, mul-div-le, div-lt-iff-lt-mul, le-div-iff-mul-le, le-of-mul-le-mul-left}

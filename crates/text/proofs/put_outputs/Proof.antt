@@ -1,5 +1,6 @@
 -- `text::put_outputs` meets its contract: the loop has put the lines of the first i units, of at most 42 bytes each.
-use Rattle.text.specs.Text.{Put, outputLines}
+use Rattle.text.specs.Text.{outputLines}
+use Rattle.text.specs.Contracts.{Put}
 use Rattle.text.proofs.Putting.{put-none}
 use Rattle.text.proofs.Lines.{put-line}
 use borrow.Author.Needs.{needs}

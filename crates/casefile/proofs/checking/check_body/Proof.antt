@@ -4,7 +4,7 @@ use borrow.Author.Tests.{not-true, not-false}
 use borrow.Author.Needs.{needs}
 use denote.Ref.{now}
 use Rattle.rules.specs.Refusal.{zoneCountInvalid, unitVerdict}
-use Rattle.reading.specs.Contracts.{BodyFits}
+use Rattle.bodies.specs.Contracts.{BodyFits}
 use Rattle.casefile.proofs.Body.{body-fits, zone-count-fits}
 use Rattle.casefile.proofs.checking.check_body.Statement.{statement}
 use Rattle.casefile.proofs.checking.check_body.Tie as tie

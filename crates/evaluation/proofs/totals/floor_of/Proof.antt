@@ -1,4 +1,4 @@
--- `evaluation::totals::floor_of` meets its contract: the quotient is rounded toward 0, so positivePart for what is not above 0, and one more than the quotient of x − 1 for what is.
+-- `evaluation::totals::floor_of` meets its contract: the quotient is rounded toward 0, so up for what is not above 0, and one more than the quotient of x − 1 for what is.
 use Prim.Native.Nat.{_+_, _<_, _≤_}
 use native.Mathlib.Omega.{arith}
 use lib.Dec.{lit<}

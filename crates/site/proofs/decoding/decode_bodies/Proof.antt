@@ -12,7 +12,7 @@ use Rattle.rules.specs.Refusal.{zoneCountInvalid, unitVerdict, bodyVerdict}
 use Rattle.rules.specs.declared.Verdict.{Verdict}
 use Rattle.rules.proofs.Sound.{sound}
 use Rattle.rules.proofs.Encoding.SoundFile.{sound-head}
-use Rattle.reading.specs.Contracts.{BodyFits}
+use Rattle.bodies.specs.Contracts.{BodyFits}
 use Rattle.casefile.specs.Contracts.{BodyInside}
 use Rattle.casefile.proofs.Contents.{body-inside, body-length}
 use Rattle.casefile.proofs.Body.{verdictAt, body-fits, zone-count-fits}

@@ -1,7 +1,7 @@
--- `reading::read_word` meets its contract.
+-- `bodies::read_word` meets its contract.
 use native.Mathlib.Omega.{arith}
-use Rattle.reading.proofs.read_word.Statement.{statement}
-use Rattle.reading.proofs.read_word.Tie as tie
+use Rattle.bodies.proofs.read_word.Statement.{statement}
+use Rattle.bodies.proofs.read_word.Tie as tie
 
 read-u16-requires : tie.Need-read-u16-requires
 read-u16-requires c κs = omega arith

@@ -7,7 +7,7 @@ ghost use Rattle.fields.specs.Field.{field};
 ghost use Rattle.rules.specs.Lists.{each};
 ghost use Rattle.rules.specs.Layout.{linearLoss, edgesStart, edgeOfBody, unitOfBody, bodyLength};
 ghost use Rattle.unit.specs.UnitHeld.{unitHeld};
-ghost use Rattle.reading.specs.Contracts.{BodyFits};
+ghost use Rattle.bodies.specs.Contracts.{BodyFits};
 use unit::Unit;
 
 // The 16 bits of a body from `at` on.

@@ -1,5 +1,5 @@
 // Step 1 on the arrays of a site, and from a case file's bytes: decoded, then step 1.
-ghost use Rattle.evaluation.specs.Contracts.{SiteHeld, Steps, FindsFirst};
+ghost use Rattle.evaluation.specs.Contracts.{SiteHeld, StepOne, FindsFirst};
 use crate::FirstBest;
 use crate::Sums;
 use crate::totals::greatest_outputs;
@@ -17,7 +17,7 @@ pub fn step1(
     outputs: &mut [u16; 32],
 ) -> FirstBest
     requires { ⌜ SiteHeld (now coefficients) (now ends) (now ranges) n ⌝ }
-    ensures { λ r. ⌜ Steps (now (coefficients .entry)) (now (ends .entry)) (now (ranges .entry)) n target (now (outputs .exit)) r ⌝ }
+    ensures { λ r. ⌜ StepOne (now (coefficients .entry)) (now (ends .entry)) (now (ranges .entry)) n target (now (outputs .exit)) r ⌝ }
 {
     let Sums { cost, net } = greatest_outputs(coefficients, ends, ranges, n, outputs);
     if net < target {

@@ -1,4 +1,4 @@
--- `reading::read_body` meets its contract, number by number.
+-- `bodies::read_body` meets its contract, number by number.
 use Prim.Native.Nat.{ℕ}
 use native.Mathlib.Omega.{arith}
 use mathlib.Core.Path.{ap, _∙_}
@@ -9,8 +9,8 @@ use borrow.Author.Needs.{needs}
 use denote.Ref.{now}
 use Rattle.rules.specs.Lists.{each}
 use Rattle.rules.specs.Layout.{edgeOfBody, unitOfBody}
-use Rattle.reading.proofs.read_body.Statement.{statement}
-use Rattle.reading.proofs.read_body.Tie as tie
+use Rattle.bodies.proofs.read_body.Statement.{statement}
+use Rattle.bodies.proofs.read_body.Tie as tie
 
 read-u32-requires : tie.Need-read-u32-requires
 read-u32-requires c κs = omega arith

@@ -1,4 +1,4 @@
--- `reading::read_edges` meets its contract: the first k edges are read.
+-- `bodies::read_edges` meets its contract: the first k edges are read.
 use Prim.Native.Nat.{ℕ, _+_, _≤_, _-_, _*_}
 use native.Mathlib.Omega.{arith}
 use mathlib.Core.Path.{_≡_, refl, ap₂, _∙_}
@@ -7,8 +7,8 @@ use denote.Ref.{now}
 use Rattle.fields.specs.Field.{field}
 use Rattle.rules.specs.Layout.{edgeOfBody}
 use Rattle.unit.proofs.Edges.{first, first-more}
-use Rattle.reading.proofs.read_edges.Statement.{statement}
-use Rattle.reading.proofs.read_edges.Tie as tie
+use Rattle.bodies.proofs.read_edges.Statement.{statement}
+use Rattle.bodies.proofs.read_edges.Tie as tie
 
 abbrev Inv-loop : tie.InvT-loop
 Inv-loop body edition z start edges₀ k₀ edges k = (k ≤ 2 * z) × (edges ≡ first (λ j. field body (start + 2 * j) 2) k)

@@ -1,9 +1,9 @@
--- `evaluation::files::step1` meets its contract: the greatest outputs cover, or do not (`Covering`).
+-- `evaluation::step_one::step1` meets its contract: the greatest outputs cover, or do not (`Covering`).
 use native.Mathlib.Omega.{arith}
 use borrow.Author.Needs.{needs}
 use Rattle.evaluation.proofs.Covering.{uncovered, covered}
-use Rattle.evaluation.proofs.files.step1.Statement.{statement}
-use Rattle.evaluation.proofs.files.step1.Tie as tie
+use Rattle.evaluation.proofs.step_one.step1.Statement.{statement}
+use Rattle.evaluation.proofs.step_one.step1.Tie as tie
 
 greatest-outputs-requires : tie.Need-greatest-outputs-requires
 greatest-outputs-requires c κs = (c .before .pre, omega (arith, c .before .pre .holds .few, c .greatest-outputs-arg .given .0))

@@ -1,10 +1,10 @@
--- `reading::edges_start` meets its contract.
+-- `bodies::edges_start` meets its contract.
 use native.Mathlib.Omega.{arith}
 use mathlib.Core.Path.{sym, ap}
 use borrow.Author.Tests.{ne-eqb}
 use Rattle.rules.specs.Layout.{edgesStart}
-use Rattle.reading.proofs.edges_start.Statement.{statement}
-use Rattle.reading.proofs.edges_start.Tie as tie
+use Rattle.bodies.proofs.edges_start.Statement.{statement}
+use Rattle.bodies.proofs.edges_start.Tie as tie
 
 returns : tie.Need-returns
 returns c = (sym (ap edgesStart (c .if1 .taken)), omega arith, omega arith)

@@ -1,4 +1,4 @@
--- `reading::read_linear_loss` meets its contract.
+-- `bodies::read_linear_loss` meets its contract.
 use native.Mathlib.Omega.{arith}
 use mathlib.Core.Path.{ap}
 use mir.Syntax.{w32}
@@ -7,8 +7,8 @@ use mir.Facts.{toZ-ofZ}
 use borrow.Author.Tests.{eq-eqb, ne-eqb}
 use borrow.Author.Needs.{needs}
 use Rattle.rules.specs.Layout.{edgesStart}
-use Rattle.reading.proofs.read_linear_loss.Statement.{statement}
-use Rattle.reading.proofs.read_linear_loss.Tie as tie
+use Rattle.bodies.proofs.read_linear_loss.Statement.{statement}
+use Rattle.bodies.proofs.read_linear_loss.Tie as tie
 
 returns : tie.Need-returns
 returns c = rw (ne-eqb _ 2 (c .if1 .taken))

@@ -1,11 +1,11 @@
--- `evaluation::files::first_best` meets its contract: decoding refuses the case, or gives a site, of which step 1 decides (`Covering`).
+-- `evaluation::step_one::first_best` meets its contract: decoding refuses the case, or gives a site, of which step 1 decides (`Covering`).
 use mathlib.Core.Path.{subst}
 use denote.Ref.{now}
 use borrow.Author.Needs.{needs}
-use Rattle.site.specs.Site.{Site, Decodes}
+use Rattle.site.specs.Contracts.{Site, Decodes}
 use Rattle.evaluation.proofs.Covering.{of-file}
-use Rattle.evaluation.proofs.files.first_best.Statement.{statement}
-use Rattle.evaluation.proofs.files.first_best.Tie as tie
+use Rattle.evaluation.proofs.step_one.first_best.Statement.{statement}
+use Rattle.evaluation.proofs.step_one.first_best.Tie as tie
 
 abbrev entry : tie.After-decode → tie.Start
 entry c = c .before .before .before .before .before
