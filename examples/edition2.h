@@ -1,7 +1,7 @@
 /* Case files of edition 2, from C: units whose losses have a linear part.
  *
- * A unit at output p, in steps of 0.1 MW, loses b * p * p and in edition 2 also b1 * p hundred-millionths of a step (README.md,
- * "The formats"). b1 is what utilities have as a B0 coefficient, times 100,000,000; it may be negative, where running the unit
+ * A unit at output p, in steps of 0.1 MW, loses b * p * p and in edition 2 also b1 * p hundred-millionths of a step
+ * (docs/FORMATS.md). b1 is what utilities have as a B0 coefficient, times 100,000,000; it may be negative, where running the unit
  * takes load off the lines of others. shahfureel_pack writes edition 1, which has no b1. This function takes the same rows, and
  * a b1 for each of them, and writes edition 2. It needs edition2.c beside it, include/shahfureel.h and nothing of the library.
  *

@@ -41,7 +41,7 @@ static int wrong_case(const char *name, uint32_t number)
 {
     if (number == SHAHFUREEL_NO_ALLOCATION)
         return wrong(name, "refused with 11: these units cannot cover the case's own demand: lower it, or widen what they give");
-    fprintf(stderr, "%s: refused with %" PRIu32 ": it is no case file, or a damaged one: make it anew, as tools/site.c does\n",
+    fprintf(stderr, "%s: refused with %" PRIu32 ": it is no case file, or a damaged one: make it anew, as target/site does\n",
             name, number);
     return 0;
 }
@@ -118,7 +118,7 @@ int main(int words, char **word)
     static struct case_file c;
     static struct table t;
     if (words != 2) {
-        wrong("usage", "floors CASE_FILE, a case file such as tools/site.c writes with --case");
+        wrong("usage", "floors CASE_FILE, a case file such as target/site writes with --case");
         return 1;
     }
     if (!read_case(word[1], &c) || !ask(word[1], &c, &t))

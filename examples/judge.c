@@ -64,7 +64,7 @@ static void explain_refusal(const char *name, const struct case_file *c, const s
     else
         fprintf(stderr, "%s: refused with %" PRIu32 ": %s\n", name, number, REFUSALS[number]);
     if (number != SHAHFUREEL_OUTPUT_COUNT_INVALID && number != SHAHFUREEL_NO_ALLOCATION)
-        fprintf(stderr, "it is no case file, or a damaged one: make it anew, as tools/site.c does\n");
+        fprintf(stderr, "it is no case file, or a damaged one: make it anew, as target/site does\n");
 }
 
 /* ---- what is given */

@@ -1,7 +1,7 @@
 /* A Modbus TCP server for station screens. Usage: modbus_server CASE_FILE PORT
  *
- * It dispatches the case file once and serves the reply as holding registers; README.md, "From a station screen: Modbus", says
- * which register holds what. Port 0 takes a free port. When it is ready it prints the port; SIGTERM or SIGINT ends it with status
+ * It dispatches the case file once and serves the reply as holding registers; docs/MODBUS.md says which
+ * register holds what. Port 0 takes a free port. When it is ready it prints the port; SIGTERM or SIGINT ends it with status
  * 0. What it cannot take is said on standard error; then the status is 1. From the repository's root, build it and run it by
  *
  *     gcc -std=c99 -O2 -Iinclude -o target/modbus_server examples/modbus_server.c target/staticlib/libpanel.a

@@ -41,7 +41,7 @@
  *             return 0;
  *         }
  *
- * Compile it with  gcc -Iinclude program.c target/staticlib/libpanel.a  (README.md, "From C", says how the library is made).
+ * Compile it with  gcc -Iinclude program.c target/staticlib/libpanel.a  (docs/C.md says how the library is made).
  * This header and libpanel.a are all that is needed: both may be copied to a machine without the toolchain, if that is x86-64
  * with Linux's calling convention. The header is C99 and C++.
  *
@@ -244,7 +244,7 @@ enum shahfureel_refusal {
     SHAHFUREEL_FLOORS_TOO_SHORT = 21         /* fewer places for floors than demands: lend one for each */
 };
 
-/* ---- calls. README.md, "The formats", has the case file byte by byte. */
+/* ---- calls. docs/FORMATS.md has the case file byte by byte. */
 
 /* Dispatches a case file, of either edition. Returns the reply's length, 28 + 2 * units, and writes the reply; or returns a
  * refusal, which is below SHAHFUREEL_LENGTH_MIN. The outputs in the reply are permitted and cover the demand after losses; no

@@ -2,9 +2,11 @@
  *
  * Reads the sets of a site from a CSV file, packs them into a case file, dispatches it, and prints who gives how much, what it
  * costs and how far from the best that can be at most. With --case it also writes the case file, which is of edition 2 if the site
- * has a column L1, and else of edition 1. README.md, "From a site's numbers to a dispatch", has the columns. All numbers are
- * converted exactly; none goes through floating point. What cannot be taken is named on standard error by line and column; then no
- * case file is written, and the status is 1. */
+ * has a column L1, and else of edition 1. docs/PLANNER.md has the columns. All numbers are converted exactly; none goes through
+ * floating point. What cannot be taken is named on standard error by line and column; then no case file is written, and the status
+ * is 1. */
+#define _POSIX_C_SOURCE 200809L /* sys/stat.h: whether two paths are one file */
+
 #include "edition2.h"
 #include "shahfureel.h"
 
@@ -12,6 +14,7 @@
 #include <inttypes.h>
 #include <stdio.h>
 #include <string.h>
+#include <sys/stat.h>
 
 enum { TEXT_MAX = 1000000, ZONES_MAX = 4, NO_LIMIT = 10000 };
 
@@ -226,11 +229,21 @@ static int read_zones(struct place p, struct text t, uint32_t *row)
 
 /* ---- lines */
 
-/* Whether a line is a comment or has nothing in any column. */
+/* Whether a line is a comment: it begins with #, behind blanks and the quote that a spreadsheet may put before it. */
+static int is_comment(const char *line, const char *end)
+{
+    while (line < end && is_blank(*line))
+        line++;
+    if (line < end && *line == '"')
+        line++;
+    while (line < end && is_blank(*line))
+        line++;
+    return line < end && *line == '#';
+}
+
+/* Whether a line has nothing in any column. */
 static int is_empty(const char *line, const char *end)
 {
-    if (line < end && *line == '#')
-        return 1;
     while (line < end && (is_blank(*line) || *line == ','))
         line++;
     return line == end;
@@ -303,6 +316,8 @@ static int read_name(struct place p, struct text name, const struct site *s)
 {
     if (name.length == 0)
         return wrong(p, name, "is no name", "");
+    if (name.at[0] == '#')
+        return wrong(p, name, "begins with #: put the # before the whole line, to take the set out", "");
     for (size_t i = 0; i < s->count; i++)
         if (same(name, s->names[i]))
             return wrong(p, name, "is the name of another set too", "");
@@ -395,7 +410,7 @@ static int read_site(const char *name, char *text, struct site *s)
             end--;
         if (!is_plain(at, end))
             return wrong_line(line, "it holds a character that is no text: save the sheet as CSV, in UTF-8");
-        if (is_empty(at, end)) {
+        if (is_comment(at, end) || is_empty(at, end)) {
             at = next;
             continue;
         }
@@ -537,6 +552,13 @@ static void print_result(const struct site *s, const uint8_t *reply)
     printf("surplus: %" PRIu64 ".%09" PRIu64 " MW\n", surplus / 1000000000, surplus % 1000000000);
 }
 
+/* Whether both paths lead to one file, however they are spelled. */
+static int same_file(const char *a, const char *b)
+{
+    struct stat first, second;
+    return stat(a, &first) == 0 && stat(b, &second) == 0 && first.st_dev == second.st_dev && first.st_ino == second.st_ino;
+}
+
 static int write_case(const char *name, const struct result *r)
 {
     FILE *out = fopen(name, "wb");
@@ -562,7 +584,7 @@ int main(int words, char **word)
         fprintf(stderr, "usage: site FILE.csv DEMAND_MW [--case CASE]\n");
         return 1;
     }
-    if (words == 5 && strcmp(word[1], word[4]) == 0) {
+    if (words == 5 && same_file(word[1], word[4])) {
         wrong_file(word[4], "the case file would replace the sets");
         return 1;
     }

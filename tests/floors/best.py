@@ -1,4 +1,4 @@
-"""The table of README.md's "When the forecast errs": its floors are those of examples/harbour-floors.txt, and its last two columns what
+"""The table of docs/PLANNER.md, "When the forecast errs": its floors are those of examples/harbour-floors.txt, and its last two columns what
 trying all permitted outputs of examples/harbour.case gives. Run from the repository's root."""
 
 import itertools
@@ -46,20 +46,20 @@ def millionths(text):
 
 
 def main():
-    with open("README.md") as f:
+    with open("docs/PLANNER.md") as f:
         rows = re.findall(r"^\| (\d+) % \| ([\d.]+) \| ([\d.]+) \| ([\d.]+) \| ([\d.]+), ([\d.]+) % \|$", f.read(), re.M)
     with open("examples/harbour-floors.txt") as f:
         floors = re.findall(r"^ *(\d+) % +([\d.]+) +([\d.]+)$", f.read(), re.M)
     with open("examples/harbour.case", "rb") as f:
         case = f.read()
     if len(rows) != 9 or [row[:3] for row in rows] != floors:
-        sys.exit("floors: README.md's floors are not those of examples/harbour-floors.txt")
+        sys.exit("floors: docs/PLANNER.md has floors that are not those of examples/harbour-floors.txt")
     demands = [millionths(row[1]) // 100_000 for row in rows]
     for (part, _, floor, best, above, percent), least in zip(rows, best_costs(case, demands)):
         distance = least - millionths(floor)
         if (millionths(best), millionths(above), percent) != (least, distance, "%.2f" % (100 * distance / least)):
             sys.exit(f"floors: at {part} % the best costs {least}, {distance} above the floor, {100 * distance / least:.2f} %")
-    print(f"floors: {len(rows)} rows of README.md as trying all outputs gives them")
+    print(f"floors: {len(rows)} rows of docs/PLANNER.md as trying all outputs gives them")
 
 
 main()

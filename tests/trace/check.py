@@ -1,6 +1,7 @@
-"""Holds docs/TRACE.md against the crates and docs/SPECIFICATION.md.
+"""Holds docs/TRACE.md and the definitions of docs/GLOSSARY.md against the crates and docs/SPECIFICATION.md.
 
-In its tables every rule must be in the specification; every file, definition, function and theorem must exist, and stand in the
+In its tables every rule must be in the specification, linked, and every rule of the specification must have a row or stand among those
+that need none; every file, definition, function and theorem must exist, and stand in the
 file named before it; every must-fail edit must exist, and every edit there is must be named. It prints what is not so.
 """
 import pathlib
@@ -9,7 +10,8 @@ import sys
 
 ROOT = pathlib.Path(__file__).resolve().parents[2]
 CRATES = ROOT / "crates"
-COLUMNS = 6
+COLUMNS = 5
+RULE = re.compile(r"\[(\d+\.\d+)\]\(SPECIFICATION\.md#r(\d+\.\d+)\)")
 # a definition, a field, a constructor or a theorem: its name stands first on its line, behind what declares it, before a colon or
 # what a record takes
 DECLARED = re.compile(r"^\s*(?:(?:abbrev|unfoldable|pub|record|data|module|ruleset)\s+)*([^\s:(){}.,]+)(?=\s|$)")
@@ -106,17 +108,32 @@ class Checker:
         self.files, self.code, self.complaints = antt_files(), code(), []
         self.edits = {f"{path.parts[-3]}/{path.stem}" for path in CRATES.glob("*/must-fail/*.edit")}
         self.rules = set(re.findall(r"\*\*(\d+\.\d+)\*\*", (ROOT / "docs/SPECIFICATION.md").read_text(encoding="utf-8")))
-        self.named = set()
+        self.named, self.traced = set(), set()
 
     def complain(self, what):
         self.complaints.append(what)
 
+    def rules_in(self, where, text, pattern):
+        """Marks the rules that a text names as traced; `A to B` names all between."""
+        before = None
+        for match in re.finditer(pattern, text):
+            first, between = match.group(1), text[before:match.start()] if before else ""
+            if match.group(match.lastindex) != first:
+                self.complain(f"{where}: the link of rule {first} leads to another")
+            section, k = map(int, first.split("."))
+            least = last[1] if between == " to " and last[0] == section else k
+            for i in range(least, k + 1):
+                if f"{section}.{i}" not in self.rules:
+                    self.complain(f"{where}: the specification has no rule {section}.{i}")
+                self.traced.add(f"{section}.{i}")
+            before, last = match.end(), (section, k)
+        return before is not None
+
     def row(self, number, cells):
         where = f"docs/TRACE.md:{number}"
-        rule, defined, promised, proved, edits, _ = cells
-        for mentioned in re.findall(r"(?<![\w.])(\d+\.\d+)(?![\w.,]*\d)", rule):
-            if mentioned not in self.rules:
-                self.complain(f"{where}: the specification has no rule {mentioned}")
+        rule, defined, promised, proved, edits = cells
+        if not self.rules_in(where, rule, RULE):
+            self.complain(f"{where}: it names no rule")
         for text in (defined, promised, proved):
             Cell(self, where, text)
         for edit in re.findall(r"\b(?!crates/)[a-z_0-9]+/(?!must-fail)[a-z_0-9]+\b", re.sub(r"`[^`]*`", "", edits)):
@@ -126,7 +143,10 @@ class Checker:
 
     def run(self):
         rows = 0
-        for number, line in enumerate((ROOT / "docs/TRACE.md").read_text(encoding="utf-8").splitlines(), 1):
+        text = (ROOT / "docs/TRACE.md").read_text(encoding="utf-8")
+        without = re.search(r"have no row: ([^a-z]*(?:to[^a-z]*)*)\. ", text)
+        self.rules_in("docs/TRACE.md", without.group(1) if without else "", re.compile(r"(\d+\.\d+)"))
+        for number, line in enumerate(text.splitlines(), 1):
             cells = [cell.strip() for cell in line.strip().strip("|").split("|")]
             if line.startswith("|") and not line.startswith(("|---", "| rule ")):
                 rows += 1
@@ -134,8 +154,13 @@ class Checker:
                     self.complain(f"docs/TRACE.md:{number}: {len(cells)} columns")
                 else:
                     self.row(number, cells)
+        for number, line in enumerate((ROOT / "docs/GLOSSARY.md").read_text(encoding="utf-8").splitlines(), 1):
+            if line.startswith("|") and "*" not in line:
+                Cell(self, f"docs/GLOSSARY.md:{number}", line.strip().strip("|").split("|")[-1])
         for edit in sorted(self.edits - self.named):
             self.complain(f"docs/TRACE.md does not name the edit {edit}")
+        for rule in sorted(self.rules - self.traced):
+            self.complain(f"docs/TRACE.md has no row of rule {rule}")
         for complaint in self.complaints:
             print(complaint)
         print(f"trace: {rows} rows, {len(self.edits)} edits, {len(self.complaints)} complaints")
