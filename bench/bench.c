@@ -2,6 +2,7 @@
  * of units. It first compares the answers of both. */
 #include "agreement.h"
 #include "cases.h"
+#include "days.h"
 #include "floors.h"
 #include "judges.h"
 #include "measure.h"
@@ -275,5 +276,6 @@ int main(int argc, char **argv)
     time_views(repetitions);
     time_judges(repetitions, &groups[OF_EDITION_1 - 1]);
     time_floors(repetitions, &groups[OF_EDITION_1 - 1]);
+    time_days(repetitions, &groups[OF_EDITION_1 - 1]);
     return 0;
 }

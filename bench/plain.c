@@ -1,7 +1,7 @@
 /* A plain C program of the specification's dispatch, from file bytes to reply bytes: what the controller is measured against.
  * It checks and decodes each unit once, finds its permitted outputs once as regions, and makes one division a unit and
- * evaluation, from which it also has the least tied output. Judging outputs that someone gives and floors for other demands have
- * the same parts. It is tested, not proved. */
+ * evaluation, from which it also has the least tied output. Judging outputs that someone gives, floors for other demands and a day
+ * by slots have the same parts. It is tested, not proved. */
 #include "plain.h"
 
 enum { UNITS_MAX = 32, ZONES_MAX = 4, REGIONS_MAX = 6 };
@@ -9,6 +9,7 @@ enum { HEAD_BYTES = 8, ENTRY_BYTES = 4, ZONE_BYTES = 4 };
 enum { B1_AT = 26, B1_BYTES = 4, B1_MAX = 10000000 };
 enum { REPLY_BYTES_MIN = 92, OUTPUTS_AT = 28, JUDGE_ANSWERS = 4 };
 enum { DEMAND_MAX = 320000, OUTPUT_MAX = 10000, MULTIPLIER_MAX = 65536, EVALUATIONS_MAX = 18, DEMANDS_MAX = 96 };
+enum { SLOT_BYTES = 18 };
 
 #define NET_OF_STEP INT64_C(100000000)
 #define PRICED_OF_COST INT64_C(100000)
@@ -29,7 +30,9 @@ enum refusal {
     LOSSES_OUT_OF_RANGE = 18,
     OUTPUT_COUNT_INVALID = 19,
     DEMANDS_INVALID = 20,
-    FLOORS_TOO_SHORT = 21
+    FLOORS_TOO_SHORT = 21,
+    DAY_DEMANDS_INVALID = 22,
+    DAY_BUFFERS_TOO_SHORT = 23
 };
 
 struct unit {
@@ -595,5 +598,77 @@ uint32_t plain_floors(const uint8_t *file, size_t file_length, const uint32_t *d
     for (size_t i = 0; i < demands_length; i++)
         floors[i] = moved_floor(&s, demands[i] - own);
     answers[0] = (int64_t)demands_length;
+    return 0;
+}
+
+/* ---- a day by slots */
+
+/* The units of a file that is accepted, and their histories before the first slot. */
+static void begin_day(const uint8_t *file, uint32_t count, struct unit *units, struct shahfureel_history *histories)
+{
+    uint32_t edges = edges_at(file);
+    for (uint32_t i = 0; i < count; i++) {
+        read_unit(file + read_u16(file + HEAD_BYTES + ENTRY_BYTES * i), edges, &units[i]);
+        histories[i].previous = (uint16_t)units[i].previous;
+        histories[i].starts = 0;
+    }
+}
+
+/* Takes the outputs of a solved slot as previous ones: in the histories, and for the permitted outputs of the next slot. */
+static void carry(const struct allocation *a, struct unit *units, struct problem *q, struct shahfureel_history *histories)
+{
+    for (uint32_t i = 0; i < q->count; i++) {
+        histories[i].starts = (uint16_t)(histories[i].starts + (units[i].previous == 0 && a->outputs[i] != 0));
+        histories[i].previous = a->outputs[i];
+        units[i].previous = a->outputs[i];
+        find_regions(&units[i], &q->offers[i]);
+    }
+}
+
+static void write_slot(uint8_t *slot, uint32_t status, int64_t cost, int64_t gap)
+{
+    write_u16(slot, status);
+    write_u64(slot + 2, (uint64_t)cost);
+    write_u64(slot + 10, (uint64_t)gap);
+}
+
+/* Dispatches the slots one after the other, writes their trace and the histories, and returns the total. */
+static int64_t dispatch_slots(const uint32_t *demands, size_t length, struct unit *units, struct problem *q, uint8_t *trace,
+                              struct shahfureel_history *histories)
+{
+    struct solution s;
+    int64_t total = 0;
+    for (size_t k = 0; k < length; k++) {
+        uint8_t *slot = trace + SLOT_BYTES * k;
+        q->target = NET_OF_STEP * demands[k];
+        if (!greatest_outputs(q, &s.best)) {
+            write_slot(slot, NO_ALLOCATION, 0, 0);
+            continue;
+        }
+        search(q, &s);
+        write_slot(slot, ACCEPTED, s.best.cost, s.best.cost - s.floor);
+        carry(&s.best, units, q, histories);
+        total += s.best.cost;
+    }
+    return total;
+}
+
+uint32_t plain_day(const uint8_t *file, size_t file_length, const uint32_t *demands, size_t demands_length, uint8_t *trace,
+                   size_t trace_room, struct shahfureel_history *histories, size_t histories_room, int64_t *answers,
+                   size_t answers_room)
+{
+    struct problem q;
+    struct unit units[UNITS_MAX];
+    if (answers_room < 1)
+        return BUFFER_TOO_SHORT;
+    if (!demands_valid(demands, demands_length))
+        return DAY_DEMANDS_INVALID;
+    if (trace_room < SLOT_BYTES * demands_length || histories_room < UNITS_MAX)
+        return DAY_BUFFERS_TOO_SHORT;
+    enum refusal r = read_case(file, file_length, &q);
+    if (r != ACCEPTED)
+        return r;
+    begin_day(file, q.count, units, histories);
+    answers[0] = dispatch_slots(demands, demands_length, units, &q, trace, histories);
     return 0;
 }

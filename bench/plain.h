@@ -1,6 +1,8 @@
-/* The plain C programs of the specification's dispatch, view, judging and floors, as the benchmark calls them. */
+/* The plain C programs of the specification's dispatch, view, judging, floors and day, as the benchmark calls them. */
 #ifndef PLAIN_H
 #define PLAIN_H
+
+#include "shahfureel.h" /* for the record of a history */
 
 #include <stddef.h>
 #include <stdint.h>
@@ -28,5 +30,10 @@ uint32_t plain_judge(const uint8_t *file, size_t file_length, const uint32_t *ou
 /* As shahfureel_floors in include/shahfureel.h. */
 uint32_t plain_floors(const uint8_t *file, size_t file_length, const uint32_t *demands, size_t demands_length, int64_t *floors,
                       size_t floors_room, int64_t *answers, size_t answers_room);
+
+/* As shahfureel_day in include/shahfureel.h. */
+uint32_t plain_day(const uint8_t *file, size_t file_length, const uint32_t *demands, size_t demands_length, uint8_t *trace,
+                   size_t trace_room, struct shahfureel_history *histories, size_t histories_room, int64_t *answers,
+                   size_t answers_room);
 
 #endif

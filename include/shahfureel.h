@@ -3,8 +3,9 @@
  * A unit is a generating set. A row is a unit's numbers as a list; packing turns rows and a demand into a case file, a few
  * hundred bytes; dispatch turns a case file into a reply: who gives how much, what it costs, and the gap to the best. Judging takes
  * a case file and outputs of your own, and says whether they will do, what they cost and how far that is from the best at most.
- * Floors takes a case file and other demands, and says for each what it costs at least, from one search. The view serves a reply to
- * station screens that poll it by Modbus.
+ * Floors takes a case file and other demands, and says for each what it costs at least, from one search. The day takes a case
+ * file and the demands of a day's slots, dispatches one after the other, each from the outputs of the one before, and says what
+ * each slot costs and how often each unit is started. The view serves a reply to station screens that poll it by Modbus.
  *
  * A whole program: one unit that can give 0.2 to 1.0 MW, but nothing strictly between 0.4 and 0.7 MW, is asked for 0.5 MW.
  * It prints "unit 1 gives 0.7 MW" and "cost 119000, nobody does it for less than 77000".
@@ -55,8 +56,8 @@
  * What the caller must ensure (nothing in C can check it):
  *   - each pointer is valid for its length or room, and lists of numbers are aligned for their type;
  *   - LENGTHS AND ROOM OF LISTS COUNT NUMBERS, NOT BYTES: rows_length, rows_room, outputs_length, demands_length, floors_room,
- *     answers_room. For an array that is `sizeof rows / sizeof rows[0]`; a bare `sizeof rows` lets the call pass the array's end.
- *     Files, replies, requests and the view's answer count bytes;
+ *     answers_room; histories_room counts records. For an array that is `sizeof rows / sizeof rows[0]`; a bare `sizeof rows`
+ *     lets the call pass the array's end. Files, replies, requests, the view's answer and the day's trace count bytes;
  *   - a length or room is at most PTRDIFF_MAX bytes, and a pointer is not null, also where the length is 0;
  *   - an output buffer overlaps no other buffer of the same call.
  * A `..._length` is the exact length of an input: a case file's length is what packing returned or what was read, not the size of
@@ -79,9 +80,12 @@ extern "C" {
 #define SHAHFUREEL_REPLY_BYTES 92u           /* a reply buffer has at least as many bytes */
 #define SHAHFUREEL_ROW_NUMBERS 19u           /* numbers to a unit in a list of rows */
 #define SHAHFUREEL_ROWS_NUMBERS 608u         /* a list of rows for unpacking has at least as many numbers */
-#define SHAHFUREEL_ANSWERS 2u                /* a list of answers has at least as many numbers; for view and floors one will do */
+#define SHAHFUREEL_ANSWERS 2u                /* a list of answers has at least as many; for view, floors and day one will do */
 #define SHAHFUREEL_JUDGE_ANSWERS 4u          /* and for shahfureel_judge as many */
-#define SHAHFUREEL_FLOORS_MAX 96u            /* a list of demands for shahfureel_floors has at most as many numbers */
+#define SHAHFUREEL_DEMANDS_MAX 96u           /* a list of demands for shahfureel_floors or shahfureel_day has at most as many */
+#define SHAHFUREEL_FLOORS_MAX 96u            /* SHAHFUREEL_DEMANDS_MAX by its former name */
+#define SHAHFUREEL_SLOT_BYTES 18u            /* bytes of a day's trace to each slot */
+#define SHAHFUREEL_HISTORIES 32u             /* a list of histories has at least as many records, however few units there are */
 #define SHAHFUREEL_MULTIPLIER_MAX 65536u     /* hundredths of the currency per MWh */
 #define SHAHFUREEL_DEMAND_MAX 320000u        /* steps of 0.1 MW */
 #define SHAHFUREEL_RAMP_UNLIMITED 10000u     /* as up or down: no ramp limit that way */
@@ -98,11 +102,12 @@ extern "C" {
 #define SHAHFUREEL_STACK_VIEW 256u
 #define SHAHFUREEL_STACK_JUDGE 3840u
 #define SHAHFUREEL_STACK_FLOORS 4096u
+#define SHAHFUREEL_STACK_DAY 4608u
 
 /* ---- editions of the case file. Edition 1 is what shahfureel_pack writes and shahfureel_unpack reads. In edition 2 each unit
  * also has b1, a linear loss, from -10,000,000 to 10,000,000: at output p the unit loses b1 * p hundred-millionths of a step
  * more. It is a B0 coefficient times 100,000,000, and may be negative. Edition 1 is read as b1 = 0. shahfureel_dispatch,
- * shahfureel_price, shahfureel_judge and shahfureel_floors take both editions.
+ * shahfureel_price, shahfureel_judge, shahfureel_floors and shahfureel_day take both editions.
  *
  * To make a file of edition 2: edition2_pack of examples/edition2.h and edition2.c takes rows as shahfureel_pack does, and a b1
  * for each. By hand, from the bytes that shahfureel_pack wrote: the first field becomes 2; into each body, behind its byte 25,
@@ -158,6 +163,22 @@ enum shahfureel_judged {
     SHAHFUREEL_JUDGED_DISTANCE = 3           /* as the cost; nobody covers the demand for less than cost - distance */
 };
 
+/* ---- a day's trace: SHAHFUREEL_SLOT_BYTES bytes to each slot, in the order of the demands; the byte of a slot at which each field
+ * starts. Fields are unsigned and big-endian; the functions below read them. */
+
+enum shahfureel_slot {
+    SHAHFUREEL_SLOT_STATUS = 0,              /* 2 bytes: 0 if the slot is solved; 11 if no permitted outputs cover its demand */
+    SHAHFUREEL_SLOT_COST = 2,                /* 8 bytes: what the slot costs, millionths of the currency per hour; 0 at 11 */
+    SHAHFUREEL_SLOT_GAP = 10                 /* 8 bytes: likewise; nobody covers this slot's demand for less than cost - gap */
+};
+
+/* ---- what shahfureel_day tells of a unit: the record of unit i of the file, counted from 0, is histories[i] */
+
+struct shahfureel_history {
+    uint16_t previous;                       /* its output in the last solved slot, in steps; without one, previous of the file */
+    uint16_t starts;                         /* how many solved slots it runs in after it stood */
+};
+
 /* These read a reply that shahfureel_dispatch has written; `unit` counts from 0 and is below shahfureel_reply_count(reply). */
 
 static inline uint64_t shahfureel_big_endian(const uint8_t *at, size_t bytes)
@@ -199,11 +220,28 @@ static inline uint16_t shahfureel_reply_output(const uint8_t *reply, size_t unit
     return (uint16_t)shahfureel_big_endian(reply + SHAHFUREEL_REPLY_OUTPUTS + 2 * unit, 2);
 }
 
+/* These read a trace that shahfureel_day has written; `slot` counts from 0 and is below the call's demands_length. */
+
+static inline uint16_t shahfureel_slot_status(const uint8_t *trace, size_t slot)
+{
+    return (uint16_t)shahfureel_big_endian(trace + SHAHFUREEL_SLOT_BYTES * slot + SHAHFUREEL_SLOT_STATUS, 2);
+}
+
+static inline uint64_t shahfureel_slot_cost(const uint8_t *trace, size_t slot)
+{
+    return shahfureel_big_endian(trace + SHAHFUREEL_SLOT_BYTES * slot + SHAHFUREEL_SLOT_COST, 8);
+}
+
+static inline uint64_t shahfureel_slot_gap(const uint8_t *trace, size_t slot)
+{
+    return shahfureel_big_endian(trace + SHAHFUREEL_SLOT_BYTES * slot + SHAHFUREEL_SLOT_GAP, 8);
+}
+
 /* ---- refusals, and what to do
  *
  * The first that applies is given: dispatch 1 to 6, unit by unit 7, 8, 18, 9, 10, then 11; pricing 14, 1, then as dispatch from
- * 2 on; judging as dispatch, then 19; floors 1, 20, 21, then as dispatch from 2 on; unpacking 1 to 6, unit by unit 7 to 10; packing
- * 12, 5, row by row 7 to 10, then 13; the view 1, 15, 16, 17.
+ * 2 on; judging as dispatch, then 19; floors 1, 20, 21, then as dispatch from 2 on; the day 1, 22, 23, then as dispatch from 2 on
+ * but never 11; unpacking 1 to 6, unit by unit 7 to 10; packing 12, 5, row by row 7 to 10, then 13; the view 1, 15, 16, 17.
  *
  * 7 to 10 from packing: to find the row, pack the rows one by one, each as a list of its 19 numbers with demand 0. The row that
  * is refused is the one. From a call on a file: a file that packing has written is never refused with 2 to 10 or 18, if it is
@@ -213,7 +251,7 @@ static inline uint16_t shahfureel_reply_output(const uint8_t *reply, size_t unit
  *
  * 11: dispatch the same rows with demand 0. Refused with 11 again: zones and ramp limits leave a must-run set no output at all
  * (dispatch the rows one by one with demand 0 to find it). Answered: the sets together give too little for the demand, as
- * their limits, zones, ramp limits and losses are.
+ * their limits, zones, ramp limits and losses are. As the status of a slot 11 is no refusal of the day: see shahfureel_day.
  *
  * 16: requests of other Modbus functions have other lengths. To answer one, send its function with the top bit set, then 1, as
  * examples/modbus_server.c does. */
@@ -241,7 +279,10 @@ enum shahfureel_refusal {
                                                 100,000,000: near 10,000 steps the net would not grow with the output */
     SHAHFUREEL_OUTPUT_COUNT_INVALID = 19,    /* not one output to a unit of the file: give 0 for a unit that stands */
     SHAHFUREEL_DEMANDS_INVALID = 20,         /* more than 96 demands: ask in several calls; or one above 320,000: in steps? */
-    SHAHFUREEL_FLOORS_TOO_SHORT = 21         /* fewer places for floors than demands: lend one for each */
+    SHAHFUREEL_FLOORS_TOO_SHORT = 21,        /* fewer places for floors than demands: lend one for each */
+    SHAHFUREEL_DAY_DEMANDS_INVALID = 22,     /* more than 96 demands for a day: make the slots longer, or plan the rest by a call on
+                                                a file whose previous outputs are those of the histories; or one above 320,000 */
+    SHAHFUREEL_DAY_BUFFERS_TOO_SHORT = 23    /* lend a trace of 18 bytes for each demand and 32 histories, also for fewer units */
 };
 
 /* ---- calls. docs/FORMATS.md has the case file byte by byte. */
@@ -316,6 +357,35 @@ uint32_t shahfureel_judge(const uint8_t *file, size_t file_length, const uint32_
  * (demands_length, floors_room and answers_room count numbers: floors_room is at least demands_length, answers_room at least 1.) */
 uint32_t shahfureel_floors(const uint8_t *file, size_t file_length, const uint32_t *demands, size_t demands_length,
                            int64_t *floors, size_t floors_room, int64_t *answers, size_t answers_room);
+
+/* Dispatches a day slot by slot. Takes a case file, of either edition, and up to 96 demands in steps of 0.1 MW, one to a slot, in
+ * their order. Returns 0 and writes 18 bytes of the trace for each slot, a history for each unit, and answers[0], the total; or
+ * returns a refusal.
+ *   - A slot is dispatched as shahfureel_dispatch does it. Its case is the file with the slot's demand for the file's own (bytes 4
+ *     to 7) and, for the previous output of each unit, previous of the unit's history. So the ramps are carried from slot to slot:
+ *     up and down say by how much a unit may change from one slot to the next. Status, cost and gap are those of that dispatch.
+ *   - Before the first slot, also where the list of demands is empty, each unit's history is set from the file: previous to the
+ *     unit's previous output there, starts to 0. What stood in the histories before the call does not count. After each solved
+ *     slot previous is the unit's output in it, and starts is one more if the unit stood before the slot and runs in it. A unit
+ *     that the file has at 0 and that runs in the first slot counts a start. A unit that stood has no ramp window when it starts.
+ *   - A slot whose demand no permitted outputs cover, from where the units are, is a refused slot: its status is 11, its cost and
+ *     gap are 0. The call returns 0 all the same and goes on; the histories stay as they are, so that the ramps of the next slot
+ *     count from the last solved slot, or from the file. A refused slot adds nothing to the total: look at every status before
+ *     you use it. After a solved slot, 11 means that the units give too little. If every slot has 11, see 11 above.
+ *   - The total is the sum of the costs of the solved slots, each per hour: for slots of a quarter of an hour divide it by 4.
+ *   - The file's own demand is checked (above 320,000 the call is refused with 5) and not dispatched: it is no slot, and the call
+ *     is not refused where the units cannot cover it.
+ *   - The histories have the outputs of the last solved slot only. For those of slot k, counted from 1, call with the first k
+ *     demands: the slots before it are the same then (examples/day.c does so).
+ *   - Each slot is dispatched without a look at the next, so that the day need not be the cheapest there is, and its gaps do not
+ *     say how far from that it is. A greater demand in one slot may even make the day cheaper.
+ * All buffers remain yours: file and demands are only read; bytes of the trace behind those of the slots, histories behind those
+ * of the units, and answers past the first are untouched. A refusal touches nothing.
+ * (demands_length and answers_room count numbers, trace_room bytes, histories_room records: trace_room is at least 18 *
+ * demands_length, histories_room at least 32, answers_room at least 1.) */
+uint32_t shahfureel_day(const uint8_t *file, size_t file_length, const uint32_t *demands, size_t demands_length, uint8_t *trace,
+                        size_t trace_room, struct shahfureel_history *histories, size_t histories_room, int64_t *answers,
+                        size_t answers_room);
 
 #ifdef __cplusplus
 }

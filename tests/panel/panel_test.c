@@ -22,14 +22,26 @@ static void expect(int holds, const char *call, const char *what)
 /* ---- buffers between guards. Sizes and places are written out here and below; `sizes_named` compares the header's with them. */
 
 enum { GUARD = 16, ALIGNMENTS = 8, FILLED = 0xA5, BYTES = 1608, NUMBERS = 608, FLOORS = 98, ANSWERS = 5 };
+enum { SLOT = 18, TRACE = 98 * SLOT, HISTORIES = 34 };
 
-static uint8_t byte_space[GUARD + ALIGNMENTS + BYTES + GUARD];
+/* histories at an address that is even and no multiple of 4: their numbers have 16 bits */
+struct history_space {
+    uint16_t before;
+    struct shahfureel_history records[GUARD + HISTORIES + GUARD];
+};
+
+static uint8_t byte_space[GUARD + ALIGNMENTS + TRACE + GUARD];
 static uint32_t number_space[GUARD + NUMBERS + GUARD];
 static int64_t floor_space[GUARD + FLOORS + GUARD];
 static int64_t answer_space[GUARD + ANSWERS + GUARD];
+static union {
+    uint32_t aligned;
+    struct history_space space;
+} shifted;
 static uint32_t *const numbers = number_space + GUARD;
 static int64_t *const floor_list = floor_space + GUARD;
 static int64_t *const answers = answer_space + GUARD;
+static struct shahfureel_history *const histories = shifted.space.records + GUARD;
 
 static void fill(void)
 {
@@ -37,6 +49,7 @@ static void fill(void)
     memset(number_space, FILLED, sizeof number_space);
     memset(floor_space, FILLED, sizeof floor_space);
     memset(answer_space, FILLED, sizeof answer_space);
+    memset(&shifted.space, FILLED, sizeof shifted.space);
 }
 
 /* whether every byte of a space but those from `at` on, `length` of them, is as fill left it */
@@ -54,10 +67,14 @@ static int bytes_kept_but(const uint8_t *at, size_t length) { return kept_but(by
 static int numbers_kept_but(size_t count) { return kept_but(number_space, sizeof number_space, numbers, count * sizeof numbers[0]); }
 static int floors_kept_but(size_t count) { return kept_but(floor_space, sizeof floor_space, floor_list, count * sizeof(int64_t)); }
 static int answers_kept_but(size_t count) { return kept_but(answer_space, sizeof answer_space, answers, count * sizeof answers[0]); }
+static int histories_kept_but(size_t count)
+{
+    return kept_but(&shifted.space, sizeof shifted.space, histories, count * sizeof histories[0]);
+}
 
 static int all_kept(void)
 {
-    return bytes_kept_but(byte_space, 0) && numbers_kept_but(0) && floors_kept_but(0) && answers_kept_but(0);
+    return bytes_kept_but(byte_space, 0) && numbers_kept_but(0) && floors_kept_but(0) && answers_kept_but(0) && histories_kept_but(0);
 }
 
 /* ---- the specification's case U5: one unit with one zone, demand 5 */
@@ -718,7 +735,7 @@ static void floors_writes(const uint8_t *file, size_t file_length, const uint32_
         expect(answers[0] == (int64_t)demands_length && answers_kept_but(1), "floors", "it writes how many, and no other answer");
         expect(memcmp(floor_list, wanted, demands_length * sizeof wanted[0]) == 0, "floors", what);
         expect(floors_kept_but(demands_length), "floors", "it writes a floor for each demand and no other");
-        expect(bytes_kept_but(byte_space, 0) && numbers_kept_but(0), "floors", "it writes nothing else");
+        expect(bytes_kept_but(byte_space, 0) && numbers_kept_but(0) && histories_kept_but(0), "floors", "it writes nothing else");
     }
 }
 
@@ -834,6 +851,292 @@ static void flooring(size_t a)
     for (size_t k = 0; k < LOWERED; k++)
         floors_of_reply(file, lowered_file(k, file, sizeof file), a);
     floors_refused(a);
+}
+
+/* ---- a day by slots */
+
+struct slot {
+    uint32_t status;
+    uint64_t cost, gap;
+};
+
+static uint32_t day(const uint8_t *from, size_t file_length, const uint32_t *asked, size_t demands_length, size_t alignment,
+                    size_t trace_room, size_t histories_room, size_t answers_room)
+{
+    fill();
+    uint8_t *file = copy_of(from, file_length, alignment);
+    uint32_t *demands = copy_of(asked, demands_length * sizeof asked[0], sizeof asked[0]);
+    uint32_t number = shahfureel_day(file, file_length, demands, demands_length, byte_space + GUARD + alignment, trace_room, histories,
+                                     histories_room, answers, answers_room);
+    release("day", demands, asked, demands_length * sizeof asked[0], sizeof asked[0]);
+    release("day", file, from, file_length, alignment);
+    return number;
+}
+
+static void day_gives(const uint8_t *file, size_t file_length, const uint32_t *demands, size_t demands_length, size_t alignment,
+                      size_t trace_room, size_t histories_room, size_t answers_room, uint32_t number, const char *what)
+{
+    uint32_t given = day(file, file_length, demands, demands_length, alignment, trace_room, histories_room, answers_room);
+    expect(given == number, "day", what);
+    expect(all_kept(), "day", "a refusal changes nothing");
+}
+
+/* what the last call wrote of these slots and units, and that it wrote nothing else */
+static void day_wrote(size_t alignment, const struct slot *slots, size_t count, const struct shahfureel_history *wanted,
+                      size_t units, int64_t total, const char *what)
+{
+    const uint8_t *trace = byte_space + GUARD + alignment;
+    for (size_t k = 0; k < count; k++) {
+        expect(shahfureel_slot_status(trace, k) == slots[k].status, "day", what);
+        expect(shahfureel_slot_cost(trace, k) == slots[k].cost && shahfureel_slot_gap(trace, k) == slots[k].gap, "day", what);
+    }
+    for (size_t i = 0; i < units; i++)
+        expect(histories[i].previous == wanted[i].previous && histories[i].starts == wanted[i].starts, "day", what);
+    expect(answers[0] == total, "day", what);
+    expect(bytes_kept_but(trace, SLOT * count), "day", "it writes 18 bytes to a slot and no other");
+    expect(histories_kept_but(units), "day", "it writes a history to a unit and no other");
+    expect(answers_kept_but(1), "day", "it writes the total and no other answer");
+    expect(numbers_kept_but(0) && floors_kept_but(0), "day", "it writes nothing else");
+}
+
+/* with just room enough, and with more */
+static void day_writes(const uint8_t *file, size_t file_length, const uint32_t *demands, size_t count, size_t alignment,
+                       const struct slot *slots, const struct shahfureel_history *wanted, size_t units, int64_t total,
+                       const char *what)
+{
+    for (size_t more = 0; more <= 2; more++) {
+        expect(day(file, file_length, demands, count, alignment, SLOT * count + more, 32 + more, 1 + more) == 0, "day", what);
+        day_wrote(alignment, slots, count, wanted, units, total, what);
+    }
+}
+
+/* a file of U once or twice, with these numbers instead of its own; b1 makes it one of edition 2 */
+struct day_case {
+    uint32_t units, demand, c0, b, previous, up, down, mark;
+    int32_t b1;
+};
+
+static uint32_t day_file(const struct day_case *c, uint8_t *file, size_t room)
+{
+    uint32_t rows[2 * ROW];
+    for (uint32_t i = 0; i < c->units; i++) {
+        uint32_t *row = rows + ROW * i;
+        memcpy(row, U_ROW, sizeof U_ROW);
+        row[SHAHFUREEL_ROW_C0] = c->c0;
+        row[SHAHFUREEL_ROW_B] = c->b;
+        row[SHAHFUREEL_ROW_PREVIOUS] = c->previous;
+        row[SHAHFUREEL_ROW_UP] = c->up;
+        row[SHAHFUREEL_ROW_DOWN] = c->down;
+        row[SHAHFUREEL_ROW_MUST_RUN] = c->mark;
+    }
+    if (c->b1 == 0)
+        return shahfureel_pack(c->demand, rows, ROW * c->units, file, room);
+    memcpy(file, e2_with(c->b, c->b1), E2_BYTES);
+    return E2_BYTES;
+}
+
+/* the specification's examples, and some more */
+static const struct {
+    struct day_case of;
+    size_t count;
+    uint32_t demands[5];
+    struct slot slots[5];
+    int64_t total;
+    struct shahfureel_history histories[2];
+    const char *what;
+} days[] = {
+    {{1, 5, 0, 0, 0, 0, 0, 0, 0},
+     5,
+     {5, 0, 10, 11, 3},
+     {{0, 119000, 42000}, {0, 0, 0}, {0, 200000, 0}, {11, 0, 0}, {0, 200000, 140000}},
+     519000,
+     {{10, 2}},
+     "U: once it runs at 10 it stays there, or stands"},
+    {{1, 11, 0, 0, 0, 0, 0, 0, 0}, 1, {5}, {{0, 119000, 42000}}, 119000, {{7, 1}}, "the file's own demand is not dispatched"},
+    {{1, 5, 0, 0, 7, 0, 0, 0, 0}, 0, {0}, {{0, 0, 0}}, 0, {{7, 0}}, "no slot: the histories are the file's"},
+    {{1, 5, 0, 0, 0, 0, 0, 0, 0},
+     3,
+     {2, 0, 10},
+     {{0, 24000, 0}, {0, 0, 0}, {0, 200000, 0}},
+     224000,
+     {{10, 2}},
+     "a unit that stood has no ramp window"},
+    {{1, 5, 0, 0, 0, 10000, 10000, 0, 0},
+     3,
+     {5, 11, 5},
+     {{0, 119000, 42000}, {11, 0, 0}, {0, 119000, 42000}},
+     238000,
+     {{7, 1}},
+     "a refused slot starts nothing"},
+    {{1, 5, 0, 0, 7, 10000, 10000, 0, 0},
+     3,
+     {5, 0, 5},
+     {{0, 119000, 42000}, {0, 0, 0}, {0, 119000, 42000}},
+     238000,
+     {{7, 1}},
+     "a unit that ran before the day does not start in its first slot"},
+    {{1, 5, 0, 0, 0, 0, 0, 1, 0}, 3, {2, 10, 2}, {{0, 24000, 0}, {11, 0, 0}, {0, 24000, 0}}, 48000, {{2, 1}}, "U must run"},
+    {{1, 5, 0, 0, 5, 0, 0, 1, 0}, 2, {0, 5}, {{11, 0, 0}, {11, 0, 0}}, 0, {{5, 0}}, "a stuck unit: every slot is refused"},
+    {{1, 5, 0, 0, 5, 3, 0, 0, 0}, 2, {7, 8}, {{0, 119000, 0}, {0, 144000, 0}}, 263000, {{8, 0}}, "up to 8 from 5"},
+    {{2, 5, 0, 0, 0, 0, 0, 0, 0},
+     4,
+     {5, 5, 0, 5},
+     {{0, 63000, 0}, {0, 63000, 0}, {0, 0, 0}, {0, 63000, 0}},
+     189000,
+     {{2, 2}, {3, 2}},
+     "U twice, tied outputs lowered"},
+    {{1, 5, 0, 1, 0, 0, 0, 0, 0}, 3, {5, 10, 11}, {{0, 119000, 41999}, {11, 0, 0}, {11, 0, 0}}, 119000, {{7, 1}}, "U with b 1"},
+    {{1, 5, 1000000000, 0, 0, 10000, 10000, 1, 0},
+     5,
+     {5, 5, 5, 5, 5},
+     {{0, 1000119000, 42000}, {0, 1000119000, 42000}, {0, 1000119000, 42000}, {0, 1000119000, 42000}, {0, 1000119000, 42000}},
+     INT64_C(5000595000),
+     {{7, 1}},
+     "a total above 32 bits"},
+    {{1, 5, 0, 0, 0, 3, 3, 0, 0}, 3, {7, 11, 4}, {{0, 119000, 0}, {11, 0, 0}, {0, 56000, 0}}, 175000, {{4, 1}}, "down over the zone"},
+    {{1, 5, 0, 0, 0, 0, 0, 0, -10000000},
+     3,
+     {5, 11, 12},
+     {{0, 119000, 51600}, {11, 0, 0}, {11, 0, 0}},
+     119000,
+     {{7, 1}},
+     "edition 2, b1 -10,000,000"},
+    {{1, 320000, 0, 0, 0, 0, 0, 0, 0}, 2, {320000, 5}, {{11, 0, 0}, {0, 119000, 42000}}, 119000, {{7, 1}}, "the greatest demands"},
+};
+
+enum { DAYS = sizeof days / sizeof days[0] };
+
+/* the day of a file by dispatches: slot by slot, of the file with the slot's demand, and the outputs of the last solved slot as the
+ * previous ones; the day of the first slots, of each number of them, must be these */
+static void day_by_dispatches(const uint8_t *from, size_t file_length, const uint32_t *demands, size_t count, size_t a)
+{
+    uint8_t file[BYTES], reply[92];
+    struct slot slots[96];
+    struct shahfureel_history wanted[32];
+    uint32_t units = (uint32_t)shahfureel_big_endian(from + 2, 2);
+    int64_t total = 0;
+    memcpy(file, from, file_length);
+    for (uint32_t i = 0; i < units; i++) {
+        wanted[i].previous = (uint16_t)shahfureel_big_endian(file + shahfureel_big_endian(file + 8 + 4 * i, 2) + 16, 2);
+        wanted[i].starts = 0;
+    }
+    for (size_t k = 0; k <= count; k++) {
+        expect(day(from, file_length, demands, k, a, SLOT * k, 32, 1) == 0, "day", "the first slots of a day are dispatched");
+        day_wrote(a, slots, k, wanted, units, total, "each slot is the dispatch of its own case");
+        if (k == count)
+            return;
+        put(file + 4, demands[k], 4);
+        uint32_t answer = shahfureel_dispatch(file, file_length, reply, sizeof reply);
+        expect(answer == 28 + 2 * units || answer == SHAHFUREEL_NO_ALLOCATION, "day", "a slot is a case");
+        slots[k] = (struct slot){answer == SHAHFUREEL_NO_ALLOCATION ? 11 : 0, 0, 0};
+        if (slots[k].status != 0)
+            continue;
+        slots[k].cost = shahfureel_reply_cost(reply);
+        slots[k].gap = shahfureel_reply_gap(reply);
+        total += (int64_t)slots[k].cost;
+        for (uint32_t i = 0; i < units; i++) {
+            wanted[i].starts = (uint16_t)(wanted[i].starts + (wanted[i].previous == 0 && shahfureel_reply_output(reply, i) != 0));
+            wanted[i].previous = shahfureel_reply_output(reply, i);
+            put(file + shahfureel_big_endian(file + 8 + 4 * i, 2) + 16, wanted[i].previous, 2);
+        }
+    }
+}
+
+/* demands around a file's own: none, half, all, a little more, too many, and back */
+static void days_of_file(const uint8_t *file, size_t file_length, size_t a)
+{
+    uint32_t own = (uint32_t)shahfureel_big_endian(file + 4, 4);
+    const uint32_t demands[12] = {own, 0, own / 2, own, own + 1, own + 2, 320000, own / 4, own + own / 2, 1, own / 3, own};
+    day_by_dispatches(file, file_length, demands, 12, a);
+}
+
+/* 96 slots, in which U gives 10 and stands by turns, and one slot more */
+static void day_of_many(size_t a)
+{
+    uint32_t demands[98];
+    struct slot slots[96];
+    for (uint32_t i = 0; i < 98; i++)
+        demands[i] = i % 2 == 0 ? 10 : 0;
+    for (uint32_t i = 0; i < 96; i++)
+        slots[i] = (struct slot){0, i % 2 == 0 ? 200000 : 0, 0};
+    day_writes(u5(), U5_BYTES, demands, 96, a, slots, (const struct shahfureel_history[]){{0, 48}}, 1, 48 * 200000, "96 slots");
+    day_gives(u5(), U5_BYTES, demands, 97, a, TRACE, 32, 1, SHAHFUREEL_DAY_DEMANDS_INVALID, "97 demands are 22");
+    day_gives(u5(), U5_BYTES, demands, 97, a, TRACE, 32, 0, SHAHFUREEL_BUFFER_TOO_SHORT, "1 comes before 22 for their number");
+    day_gives(u5(), U5_BYTES, demands, 98, a, 0, 0, 1, SHAHFUREEL_DAY_DEMANDS_INVALID, "22 comes before 23");
+    day_gives(u5(), U5_BYTES, demands, 96, a, SLOT * 96 - 1, 32, 1, SHAHFUREEL_DAY_BUFFERS_TOO_SHORT, "1,727 bytes are 23");
+    demands[95] = 320001;
+    day_gives(u5(), U5_BYTES, demands, 96, a, TRACE, 32, 1, SHAHFUREEL_DAY_DEMANDS_INVALID, "the last of 96 demands is looked at");
+}
+
+/* demands and room that are refused, and what they come before */
+static void day_refused(size_t a)
+{
+    static const uint32_t great[3] = {5, 7, 320001}, first[3] = {320001, 5, 7}, greatest[1] = {UINT32_MAX};
+    day_gives(u5(), U5_BYTES, great, 3, a, TRACE, 32, 1, SHAHFUREEL_DAY_DEMANDS_INVALID, "320,001 is 22");
+    day_gives(u5(), U5_BYTES, first, 3, a, TRACE, 32, 1, SHAHFUREEL_DAY_DEMANDS_INVALID, "320,001 is 22 also as the first");
+    day_gives(u5(), U5_BYTES, greatest, 1, a, TRACE, 32, 1, SHAHFUREEL_DAY_DEMANDS_INVALID, "a demand is unsigned");
+    day_gives(u5(), U5_BYTES, great, 3, a, 53, 32, 1, SHAHFUREEL_DAY_DEMANDS_INVALID, "22 comes before 23 for the trace");
+    day_gives(u5(), U5_BYTES, great, 3, a, 54, 31, 1, SHAHFUREEL_DAY_DEMANDS_INVALID, "22 comes before 23 for the histories");
+    day_gives(u5(), 0, great, 3, a, TRACE, 32, 1, SHAHFUREEL_DAY_DEMANDS_INVALID, "22 comes before 2");
+    day_gives(u5(), U5_BYTES, great, 1, a, 17, 32, 1, SHAHFUREEL_DAY_BUFFERS_TOO_SHORT, "a trace of 17 bytes is 23");
+    day_gives(u5(), U5_BYTES, great, 1, a, 0, 32, 1, SHAHFUREEL_DAY_BUFFERS_TOO_SHORT, "no trace is 23");
+    day_gives(u5(), U5_BYTES, great, 2, a, 35, 32, 1, SHAHFUREEL_DAY_BUFFERS_TOO_SHORT, "35 bytes for two slots are 23");
+    day_gives(u5(), U5_BYTES, great, 1, a, 18, 31, 1, SHAHFUREEL_DAY_BUFFERS_TOO_SHORT, "31 histories are 23");
+    day_gives(u5(), U5_BYTES, great, 1, a, 18, 1, 1, SHAHFUREEL_DAY_BUFFERS_TOO_SHORT, "a history for the one unit is 23");
+    day_gives(u5(), U5_BYTES, great, 0, a, 0, 31, 1, SHAHFUREEL_DAY_BUFFERS_TOO_SHORT, "31 histories are 23 also for no slot");
+    day_gives(u5(), U5_BYTES, great, 0, a, 0, 0, 1, SHAHFUREEL_DAY_BUFFERS_TOO_SHORT, "no history is 23");
+    day_gives(u5(), 0, great, 1, a, 17, 32, 1, SHAHFUREEL_DAY_BUFFERS_TOO_SHORT, "23 comes before 2");
+    day_gives(u5(), 0, great, 1, a, 18, 31, 1, SHAHFUREEL_DAY_BUFFERS_TOO_SHORT, "23 for the histories comes before 2");
+    day_gives(u5(), U5_BYTES, great, 2, a, TRACE, 32, 0, SHAHFUREEL_BUFFER_TOO_SHORT, "no answer is 1");
+    day_gives(u5(), U5_BYTES, great, 3, a, TRACE, 32, 0, SHAHFUREEL_BUFFER_TOO_SHORT, "1 comes before 22");
+    day_gives(u5(), U5_BYTES, great, 2, a, 35, 31, 0, SHAHFUREEL_BUFFER_TOO_SHORT, "1 comes before 23");
+    day_gives(u5(), 0, great, 0, a, 0, 32, 0, SHAHFUREEL_BUFFER_TOO_SHORT, "1 comes before 2");
+    day_gives(u5(), 0, great, 2, a, TRACE, 32, 1, SHAHFUREEL_FILE_TOO_SHORT, "an empty file is 2");
+    day_gives(u5(), 7, great, 0, a, 0, 32, 1, SHAHFUREEL_FILE_TOO_SHORT, "a file of 7 bytes is 2 also for no slot");
+    day_gives(u5(), 11, great, 2, a, TRACE, 32, 1, SHAHFUREEL_CONTENTS_INVALID, "a file cut in its contents is 6");
+    day_gives(u5(), U5_BYTES - 1, great, 2, a, TRACE, 32, 1, SHAHFUREEL_CONTENTS_INVALID, "a cut file is 6");
+    day_gives(u5(), U5_BYTES + 1, great, 2, a, TRACE, 32, 1, SHAHFUREEL_CONTENTS_INVALID, "a padded file is 6");
+}
+
+static void day_of_damaged(size_t a)
+{
+    static const uint32_t demands[3] = {5, 7, 320001};
+    for (size_t i = 0; i < DAMAGED; i++) {
+        const uint8_t *file = u5_but(damaged[i].at, damaged[i].value);
+        day_gives(file, U5_BYTES, demands, 2, a, TRACE, 32, 1, damaged[i].number, damaged[i].what);
+        day_gives(file, U5_BYTES, demands, 0, a, 0, 32, 1, damaged[i].number, "a file is checked also for no slot");
+        day_gives(file, U5_BYTES, demands, 3, a, TRACE, 32, 1, SHAHFUREEL_DAY_DEMANDS_INVALID, "22 comes before the file");
+        day_gives(file, U5_BYTES, demands, 2, a, 35, 32, 1, SHAHFUREEL_DAY_BUFFERS_TOO_SHORT, "23 comes before the file");
+    }
+    for (size_t i = 0; i < DAMAGED_2; i++) {
+        if (damaged_2[i].number == SHAHFUREEL_NO_ALLOCATION) {
+            days_of_file(e2_damaged(i), E2_BYTES, a); /* a day is never refused with 11 */
+            continue;
+        }
+        day_gives(e2_damaged(i), E2_BYTES, demands, 2, a, TRACE, 32, 1, damaged_2[i].number, damaged_2[i].what);
+        day_gives(e2_damaged(i), E2_BYTES, demands, 0, a, 0, 32, 1, damaged_2[i].number, "a file is checked also for no slot");
+        day_gives(e2_damaged(i), E2_BYTES, demands, 2, a, 36, 31, 1, SHAHFUREEL_DAY_BUFFERS_TOO_SHORT, "23 comes before the file");
+    }
+}
+
+static void planning(size_t a)
+{
+    uint8_t file[BYTES];
+    for (size_t k = 0; k < DAYS; k++) {
+        uint32_t length = day_file(&days[k].of, file, sizeof file);
+        expect(length >= 30, "day", days[k].what);
+        day_writes(file, length, days[k].demands, days[k].count, a, days[k].slots, days[k].histories, days[k].of.units, days[k].total,
+                   days[k].what);
+        day_by_dispatches(file, length, days[k].demands, days[k].count, a);
+    }
+    for (size_t k = 0; k < LOWERED; k++)
+        days_of_file(file, lowered_file(k, file, sizeof file), a);
+    days_of_file(u5(), U5_BYTES, a);
+    days_of_file(e2(), E2_BYTES, a);
+    days_of_file(e2_with(5000, 4999), E2_BYTES, a);
+    day_of_many(a);
+    day_refused(a);
+    day_of_damaged(a);
 }
 
 /* ---- packing */
@@ -997,7 +1300,11 @@ static void sizes_named(void)
     expect(SHAHFUREEL_FILE_BYTES_MAX == BYTES && SHAHFUREEL_ROWS_NUMBERS == NUMBERS, "names", "1,608 bytes, 608 numbers");
     expect(SHAHFUREEL_ROW_NUMBERS == ROW && SHAHFUREEL_ROW_EDGES + 8 == ROW, "names", "19 numbers, the last 8 of them edges");
     expect(SHAHFUREEL_REPLY_BYTES == 92 && SHAHFUREEL_ANSWERS == 2, "names", "92 bytes, 2 answers");
-    expect(SHAHFUREEL_JUDGE_ANSWERS == 4 && SHAHFUREEL_FLOORS_MAX == 96, "names", "4 answers of judging, 96 demands for floors");
+    expect(SHAHFUREEL_JUDGE_ANSWERS == 4 && SHAHFUREEL_DEMANDS_MAX == 96, "names", "4 answers of judging, 96 demands");
+    expect(SHAHFUREEL_FLOORS_MAX == SHAHFUREEL_DEMANDS_MAX, "names", "the former name of the number of demands");
+    expect(SHAHFUREEL_SLOT_BYTES == SLOT && SHAHFUREEL_HISTORIES == 32, "names", "18 bytes to a slot, 32 histories");
+    expect(sizeof(struct shahfureel_history) == 4 && offsetof(struct shahfureel_history, starts) == 2, "names", "two 16-bit numbers");
+    expect((uintptr_t)histories % 4 == 2, "names", "histories at an even address that is no multiple of 4");
     expect(SHAHFUREEL_UNITS_MAX == 32 && SHAHFUREEL_DEMAND_MAX == 320000, "names", "32 units, 320,000 steps");
     expect(SHAHFUREEL_MULTIPLIER_MAX == 65536 && SHAHFUREEL_LENGTH_MIN == sizeof U5_REPLY, "names", "65,536, 30");
     expect(SHAHFUREEL_REPLY_OUTPUTS_AT == SHAHFUREEL_REPLY_OUTPUTS, "names", "the former name of the outputs' place");
@@ -1027,6 +1334,7 @@ static void longest_reply(const uint8_t *file, size_t length)
         expect(shahfureel_reply_output(reply, i) == 0x102, "names", "each gives its least output");
     judging_replies(file, length, 1);
     floors_of_reply(file, length, 1);
+    days_of_file(file, length, 1);
 }
 
 /* 32 times V: the longest file of edition 1 */
@@ -1071,6 +1379,18 @@ static void judgements_named(void)
     expect(judged[SHAHFUREEL_JUDGED_ACCEPTED] == 1 && judged[SHAHFUREEL_JUDGED_COST] == 119000, "names", "accepted, cost");
     expect(judged[SHAHFUREEL_JUDGED_SURPLUS] == 200000000, "names", "surplus");
     expect(judged[SHAHFUREEL_JUDGED_DISTANCE] == 42000, "names", "distance");
+}
+
+static void slots_named(void)
+{
+    uint8_t rising[2 * SHAHFUREEL_SLOT_BYTES];
+    for (size_t i = 0; i < sizeof rising; i++)
+        rising[i] = (uint8_t)(0xC1 + i);
+    expect(shahfureel_slot_status(rising, 0) == 0xC1C2 && shahfureel_slot_status(rising, 1) == 0xD3D4, "names", "status");
+    expect(shahfureel_slot_cost(rising, 0) == UINT64_C(0xC3C4C5C6C7C8C9CA), "names", "cost of the first slot");
+    expect(shahfureel_slot_cost(rising, 1) == UINT64_C(0xD5D6D7D8D9DADBDC), "names", "cost of the second");
+    expect(shahfureel_slot_gap(rising, 0) == UINT64_C(0xCBCCCDCECFD0D1D2), "names", "gap of the first slot");
+    expect(shahfureel_slot_gap(rising, 1) == UINT64_C(0xDDDEDFE0E1E2E3E4), "names", "gap of the second");
 }
 
 static void replies_named(void)
@@ -1149,6 +1469,7 @@ int main(void)
     longest_packed();
     longest_of_edition_2();
     replies_named();
+    slots_named();
     judgements_named();
     advice();
     for (size_t alignment = 1; alignment <= ALIGNMENTS; alignment++) {
@@ -1157,6 +1478,7 @@ int main(void)
         viewing(alignment);
         judging(alignment);
         flooring(alignment);
+        planning(alignment);
         packing(alignment);
         unpacking(alignment);
     }

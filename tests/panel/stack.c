@@ -15,8 +15,10 @@ static ucontext_t here, there;
 
 static uint8_t file[SHAHFUREEL_FILE_BYTES_MAX], reply[SHAHFUREEL_REPLY_BYTES], packed_file[SHAHFUREEL_FILE_BYTES_MAX];
 static uint8_t request[SHAHFUREEL_VIEW_REQUEST_BYTES] = {3, 0, 0, 0, 1}, viewed[SHAHFUREEL_VIEW_ANSWER_BYTES];
-static uint32_t rows[SHAHFUREEL_ROWS_NUMBERS], outputs[SHAHFUREEL_UNITS_MAX], demands[SHAHFUREEL_FLOORS_MAX];
-static int64_t floors[SHAHFUREEL_FLOORS_MAX], answers[SHAHFUREEL_JUDGE_ANSWERS];
+static uint32_t rows[SHAHFUREEL_ROWS_NUMBERS], outputs[SHAHFUREEL_UNITS_MAX], demands[SHAHFUREEL_DEMANDS_MAX];
+static int64_t floors[SHAHFUREEL_DEMANDS_MAX], answers[SHAHFUREEL_JUDGE_ANSWERS];
+static uint8_t trace[SHAHFUREEL_DEMANDS_MAX * SHAHFUREEL_SLOT_BYTES];
+static struct shahfureel_history histories[SHAHFUREEL_HISTORIES];
 static size_t file_length, units;
 static uint32_t reply_length;
 
@@ -29,7 +31,12 @@ static void view(void) { shahfureel_view(reply, reply_length, request, sizeof re
 static void judge(void) { shahfureel_judge(file, file_length, outputs, units, answers, SHAHFUREEL_JUDGE_ANSWERS); }
 static void floor_list(void)
 {
-    shahfureel_floors(file, file_length, demands, SHAHFUREEL_FLOORS_MAX, floors, SHAHFUREEL_FLOORS_MAX, answers, 1);
+    shahfureel_floors(file, file_length, demands, SHAHFUREEL_DEMANDS_MAX, floors, SHAHFUREEL_DEMANDS_MAX, answers, 1);
+}
+static void day(void)
+{
+    shahfureel_day(file, file_length, demands, SHAHFUREEL_DEMANDS_MAX, trace, sizeof trace, histories, SHAHFUREEL_HISTORIES, answers,
+                   1);
 }
 
 static const struct {
@@ -40,7 +47,7 @@ static const struct {
     {"dispatch", dispatch, SHAHFUREEL_STACK_DISPATCH}, {"price", price, SHAHFUREEL_STACK_PRICE},
     {"pack", pack, SHAHFUREEL_STACK_PACK},             {"unpack", unpack, SHAHFUREEL_STACK_UNPACK},
     {"view", view, SHAHFUREEL_STACK_VIEW},             {"judge", judge, SHAHFUREEL_STACK_JUDGE},
-    {"floors", floor_list, SHAHFUREEL_STACK_FLOORS},
+    {"floors", floor_list, SHAHFUREEL_STACK_FLOORS},   {"day", day, SHAHFUREEL_STACK_DAY},
 };
 
 enum { CALLS = sizeof calls / sizeof calls[0] };
@@ -73,6 +80,8 @@ static void read_case(const char *path)
     file_length = fread(file, 1, sizeof file, f);
     fclose(f);
     units = (size_t)file[2] * 256 + file[3];
+    for (size_t k = 0; k < SHAHFUREEL_DEMANDS_MAX; k++)
+        demands[k] = (uint32_t)shahfureel_big_endian(file + 4, 4) * (uint32_t)(k % 4) / 3; /* from none to the case's own */
 }
 
 int main(int count, char **paths)

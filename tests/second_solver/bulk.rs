@@ -4,13 +4,13 @@
 use second_solver::branches::Reached;
 use second_solver::calls::{bytes_of, Call};
 use second_solver::generate::kinds;
+use second_solver::lent::{difference_of, random_byte, random_i64, random_u32, Lent};
 use second_solver::promise::{self, Floors, Judgements, Loads};
-use second_solver::random::Random;
+use second_solver::random::{seed_of_clock, Random};
 use second_solver::solver::{self, Judged, Refused};
 use second_solver::tally::{Tally, POSSIBLE_IN_C};
 use second_solver::{hex, vectors};
-use std::fmt::Debug;
-use std::time::{Duration, Instant, SystemTime};
+use std::time::{Duration, Instant};
 
 const LONG: usize = 65_536;
 const MOST_ALLOCATIONS: usize = 200_000;
@@ -59,45 +59,6 @@ extern "C" {
 }
 
 // ---- lent buffers
-
-/// A list of which a part is lent; the rest guards it on both sides.
-#[derive(Clone, Debug, PartialEq)]
-struct Lent<T> {
-    whole: Vec<T>,
-    start: usize,
-    length: usize,
-}
-
-impl<T: Clone> Lent<T> {
-    /// Lends `length` elements at a random place, amid random elements.
-    fn random(length: usize, random: &mut Random, element: fn(&mut Random) -> T) -> Lent<T> {
-        let start = 1 + random.below(16);
-        let size = start + length + 1 + random.below(64);
-        Lent { whole: (0..size).map(|_| element(random)).collect(), start, length }
-    }
-
-    fn holding(content: &[T], random: &mut Random, element: fn(&mut Random) -> T) -> Lent<T> {
-        let mut lent = Lent::random(content.len(), random, element);
-        lent.part().clone_from_slice(content);
-        lent
-    }
-
-    fn part(&mut self) -> &mut [T] {
-        &mut self.whole[self.start..self.start + self.length]
-    }
-}
-
-fn random_byte(random: &mut Random) -> u8 {
-    random.next() as u8
-}
-
-fn random_u32(random: &mut Random) -> u32 {
-    random.next() as u32
-}
-
-fn random_i64(random: &mut Random) -> i64 {
-    random.next() as i64
-}
 
 /// All buffers of one call; those that a call does not have are empty.
 #[derive(Clone, Debug, PartialEq)]
@@ -308,13 +269,13 @@ fn difference(call: &Call, library: (u32, &Buffers), solver: (u32, &Buffers)) ->
         library.1.bytes_out.length, library.1.rows_out.length, library.1.floors_out.length, library.1.answers.length
     );
     text += &format!("the library returns {}, the solver {}\n", library.0, solver.0);
-    text += &buffer_difference("input bytes", &library.1.bytes_in, &solver.1.bytes_in);
-    text += &buffer_difference("request bytes", &library.1.request_in, &solver.1.request_in);
-    text += &buffer_difference("input numbers", &library.1.numbers_in, &solver.1.numbers_in);
-    text += &buffer_difference("bytes", &library.1.bytes_out, &solver.1.bytes_out);
-    text += &buffer_difference("rows", &library.1.rows_out, &solver.1.rows_out);
-    text += &buffer_difference("floors", &library.1.floors_out, &solver.1.floors_out);
-    text += &buffer_difference("answers", &library.1.answers, &solver.1.answers);
+    text += &difference_of("input bytes", &library.1.bytes_in, &solver.1.bytes_in);
+    text += &difference_of("request bytes", &library.1.request_in, &solver.1.request_in);
+    text += &difference_of("input numbers", &library.1.numbers_in, &solver.1.numbers_in);
+    text += &difference_of("bytes", &library.1.bytes_out, &solver.1.bytes_out);
+    text += &difference_of("rows", &library.1.rows_out, &solver.1.rows_out);
+    text += &difference_of("floors", &library.1.floors_out, &solver.1.floors_out);
+    text += &difference_of("answers", &library.1.answers, &solver.1.answers);
     text
 }
 
@@ -328,18 +289,6 @@ fn input_text(call: &Call) -> String {
         Call::Judge { file, outputs } => format!("judge: outputs {:?}, file {}", outputs, hex(file)),
         Call::Floors { file, demands, .. } => format!("floors: demands {:?}, file {}", demands, hex(file)),
     }
-}
-
-/// The elements that differ, by their place from the start of the lent part.
-fn buffer_difference<T: PartialEq + Debug>(name: &str, library: &Lent<T>, solver: &Lent<T>) -> String {
-    let mut text = String::new();
-    for (place, (one, other)) in library.whole.iter().zip(&solver.whole).enumerate() {
-        if one != other {
-            let place = place as i64 - library.start as i64;
-            text += &format!("{} at {}: the library has {:?}, the solver {:?}\n", name, place, one, other);
-        }
-    }
-    text
 }
 
 /// Whether a call has passed the file's checks, and the file is small enough for brute force.
@@ -482,11 +431,6 @@ fn run_for(seconds: u64, seed: u64) {
     println!("repeat this run with seed {}", seed);
 }
 
-fn clock() -> u64 {
-    let now = SystemTime::now().duration_since(SystemTime::UNIX_EPOCH);
-    now.map_or(0, |time| time.as_nanos() as u64)
-}
-
 fn main() {
     let arguments: Vec<String> = std::env::args().skip(1).collect();
     let arguments: Vec<&str> = arguments.iter().map(String::as_str).collect();
@@ -498,7 +442,7 @@ fn main() {
             run.case_or_exit(number(seed));
             run.print();
         }
-        [seconds] => run_for(number(seconds), clock()),
+        [seconds] => run_for(number(seconds), seed_of_clock()),
         [seconds, seed] => run_for(number(seconds), number(seed)),
         _ => panic!("usage: bulk SECONDS [SEED], or bulk --case SEED"),
     }

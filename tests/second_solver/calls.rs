@@ -1,4 +1,5 @@
-//! The seven calls of the specification, with their inputs and the size of the buffer that is lent.
+//! The calls of the specification, with their inputs and the size of the buffer that is lent: seven that the runner makes too,
+//! and the day, which it leaves out.
 
 #[derive(Clone, Debug)]
 pub enum Call {
@@ -30,6 +31,16 @@ impl Call {
     pub fn name(&self) -> &'static str {
         NAMES[self.index()]
     }
+}
+
+/// A call for a day by slots, and how much is lent: bytes of the trace, histories and answers.
+#[derive(Clone, Debug)]
+pub struct Day {
+    pub file: Vec<u8>,
+    pub demands: Vec<u32>,
+    pub trace_room: usize,
+    pub histories_room: usize,
+    pub answers_room: usize,
 }
 
 /// Numbers of 32 bits as bytes, 4 to a number, most significant byte first.

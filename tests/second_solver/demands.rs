@@ -56,10 +56,14 @@ pub fn floored_lists(random: &mut Random) -> Vec<Call> {
 
 /// Damaged files of any kind, with a few demands or none.
 pub fn floored_damage(random: &mut Random) -> Vec<Call> {
-    let files: Vec<Vec<u8>> = (random.pick(&damaged_kinds()).make)(random).into_iter().filter_map(dispatched).collect();
-    let some = (0..DAMAGED.min(files.len())).map(|_| random.pick(&files)).collect::<Vec<_>>();
     let list = |random: &mut Random| random.pick(&[vec![], vec![5], vec![0, GREATEST_DEMAND, 7]]);
-    some.into_iter().map(|file| Call::Floors { file, demands: list(random), room: 3 }).collect()
+    damaged_files(random).into_iter().map(|file| Call::Floors { file, demands: list(random), room: 3 }).collect()
+}
+
+/// Some files of a damaged kind.
+pub fn damaged_files(random: &mut Random) -> Vec<Vec<u8>> {
+    let files: Vec<Vec<u8>> = (random.pick(&damaged_kinds()).make)(random).into_iter().filter_map(dispatched).collect();
+    (0..DAMAGED.min(files.len())).map(|_| random.pick(&files)).collect()
 }
 
 fn dispatched(call: Call) -> Option<Vec<u8>> {
@@ -76,7 +80,7 @@ fn about_a_fifth(case: &Case) -> Vec<u32> {
     (80..=120).step_by(5).map(|percent| within_limit(case.demand * percent / 100)).collect()
 }
 
-fn within_limit(demand: i128) -> u32 {
+pub fn within_limit(demand: i128) -> u32 {
     demand.clamp(0, i128::from(GREATEST_DEMAND)) as u32
 }
 

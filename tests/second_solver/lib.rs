@@ -1,4 +1,4 @@
-//! The second solver and its test cases, shared by the two programs.
+//! The second solver and its test cases, shared by the three programs.
 
 pub mod branches;
 pub mod calls;
@@ -7,10 +7,13 @@ pub mod demands;
 pub mod floored;
 pub mod generate;
 pub mod judged;
+pub mod lent;
 pub mod lowered;
 pub mod outputs;
 pub mod promise;
 pub mod random;
+pub mod slots;
+pub mod slotted;
 pub mod solver;
 pub mod tally;
 pub mod vectors;

@@ -1,5 +1,7 @@
 //! A seeded source of numbers (SplitMix64), the same on every machine.
 
+use std::time::SystemTime;
+
 pub struct Random(u64);
 
 impl Random {
@@ -32,4 +34,10 @@ impl Random {
     pub fn pick<T: Clone>(&mut self, list: &[T]) -> T {
         list[self.below(list.len())].clone()
     }
+}
+
+/// A seed that is another in every run.
+pub fn seed_of_clock() -> u64 {
+    let now = SystemTime::now().duration_since(SystemTime::UNIX_EPOCH);
+    now.map_or(0, |time| time.as_nanos() as u64)
 }

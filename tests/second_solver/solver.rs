@@ -581,12 +581,19 @@ pub fn judge(file: &[u8], outputs: &[u32]) -> Result<Judged, Refused> {
     }))
 }
 
+// ---- lists of demands
+
+/// Whether a list of demands is one that a call answers for.
+fn fits(demands: &[u32]) -> bool {
+    demands.len() <= 96 && demands.iter().all(|demand| *demand <= 320_000)
+}
+
 // ---- floors for other demands
 
 /// Writes for each of some demands the greatest floor that the multipliers evaluated for the case's own give it; the answer is how
 /// many floors that are.
 pub fn floors(file: &[u8], demands: &[u32], floors: &mut [i64]) -> Result<usize, Refused> {
-    refuse_if(demands.len() > 96 || demands.iter().any(|demand| *demand > 320_000), 20)?;
+    refuse_if(!fits(demands), 20)?;
     refuse_if(floors.len() < demands.len(), 21)?;
     let case = decode(file)?;
     let search = search(&problem(&case)?);
@@ -595,6 +602,65 @@ pub fn floors(file: &[u8], demands: &[u32], floors: &mut [i64]) -> Result<usize,
         *floor = i64::try_from(greatest).expect("a floor of 64 bits");
     }
     Ok(demands.len())
+}
+
+// ---- a day by slots
+
+/// What a unit gave last, and how often it was started.
+#[repr(C)]
+#[derive(Clone, Copy, Debug, PartialEq, Eq)]
+pub struct History {
+    pub previous: u16,
+    pub starts: u16,
+}
+
+/// The length of a slot in the trace.
+pub const SLOT: usize = 18;
+
+/// Solves a slot for each demand, one after the other, and writes the trace and the histories; the answer is the total.
+pub fn day(file: &[u8], demands: &[u32], trace: &mut [u8], histories: &mut [History]) -> Result<i128, Refused> {
+    refuse_if(!fits(demands), 22)?;
+    refuse_if(trace.len() < SLOT * demands.len() || histories.len() < 32, 23)?;
+    let case = decode(file)?;
+    for (history, unit) in histories.iter_mut().zip(&case.units) {
+        *history = History { previous: unit.previous as u16, starts: 0 };
+    }
+    let mut total = 0;
+    for (demand, bytes) in demands.iter().zip(trace.chunks_mut(SLOT)) {
+        let answer = solve(&slot_case(&case, *demand, histories));
+        bytes.copy_from_slice(&encode_slot(&answer));
+        if let Ok(reply) = answer {
+            total += reply.cost;
+            move_on(histories, &reply.outputs);
+        }
+    }
+    Ok(total)
+}
+
+/// The units with the previous outputs of their histories, and the slot's demand.
+fn slot_case(case: &Case, demand: u32, histories: &[History]) -> Case {
+    let with = |(unit, history): (&Unit, &History)| Unit { previous: i128::from(history.previous), ..unit.clone() };
+    Case { edition: case.edition, demand: i128::from(demand), units: case.units.iter().zip(histories).map(with).collect() }
+}
+
+fn move_on(histories: &mut [History], outputs: &[i128]) {
+    for (history, output) in histories.iter_mut().zip(outputs) {
+        history.starts += u16::from(history.previous == 0 && *output != 0);
+        history.previous = *output as u16;
+    }
+}
+
+/// What the trace has of a slot: its status, and its cost and gap, which are 0 where it is refused.
+fn encode_slot(answer: &Result<Reply, Refused>) -> Vec<u8> {
+    let (status, cost, gap) = match answer {
+        Ok(reply) => (0, reply.cost, reply.gap),
+        Err(Refused(number)) => (i128::from(*number), 0, 0),
+    };
+    let mut bytes = Vec::new();
+    put(&mut bytes, status, 2);
+    put(&mut bytes, cost, 8);
+    put(&mut bytes, gap, 8);
+    bytes
 }
 
 // ---- the Modbus view
@@ -717,6 +783,14 @@ pub fn panel_floors(file: &[u8], demands: &[u32], list: &mut [i64], answers: &mu
     let written = refuse_if(answers.is_empty(), 1).and_then(|()| floors(file, demands, list));
     number_of(written.map(|count| {
         answers[0] = count as i64;
+        0
+    }))
+}
+
+pub fn panel_day(file: &[u8], demands: &[u32], trace: &mut [u8], histories: &mut [History], answers: &mut [i64]) -> u32 {
+    let solved = refuse_if(answers.is_empty(), 1).and_then(|()| day(file, demands, trace, histories));
+    number_of(solved.map(|total| {
+        answers[0] = i64::try_from(total).expect("a total of 64 bits");
         0
     }))
 }

@@ -27,40 +27,62 @@ pub const POSSIBLE_IN_C: [&[usize]; CALLS] = [
     &[1, 2, 3, 4, 5, 6, 7, 8, 9, 10, 11, 18, 20, 21],
 ];
 
-/// Counts by call and number; number 0 stands for an answer.
-#[derive(Default)]
-pub struct Tally([[u64; 22]; CALLS]);
+/// The numbers that the day can give in C (rules 21.1 and 21.9).
+pub const POSSIBLE_OF_DAYS: &[usize] = &[1, 2, 3, 4, 5, 6, 7, 8, 9, 10, 18, 22, 23];
 
-impl Tally {
-    /// Counts a call by its index, and its refusal or none.
-    pub fn count(&mut self, call: usize, refused: Option<Refused>) {
+/// Counts of one call by number; number 0 stands for an answer.
+#[derive(Default)]
+pub struct Numbers([u64; 24]);
+
+impl Numbers {
+    pub fn count(&mut self, refused: Option<Refused>) {
         let number = refused.map_or(0, |refused| refused.0 as usize);
-        self.0[call][number] += 1;
+        self.0[number] += 1;
     }
 
     pub fn total(&self) -> u64 {
-        self.0.iter().flatten().sum()
+        self.0.iter().sum()
     }
 
     /// One line to a count, refusals only where they occurred.
-    pub fn lines(&self) -> Vec<String> {
-        let mut lines = Vec::new();
-        for (name, counts) in NAMES.iter().zip(&self.0) {
-            lines.push(format!("{} answered {}", name, counts[0]));
-            for (number, count) in counts.iter().enumerate().skip(1).filter(|(_, count)| **count > 0) {
-                lines.push(format!("{} refused {} {}", name, number, count));
-            }
+    pub fn lines(&self, name: &str) -> Vec<String> {
+        let mut lines = vec![format!("{} answered {}", name, self.0[0])];
+        for (number, count) in self.0.iter().enumerate().skip(1).filter(|(_, count)| **count > 0) {
+            lines.push(format!("{} refused {} {}", name, number, count));
         }
         lines
     }
 
-    /// Asserts that every call was answered, and refused by every number that it can give.
+    /// Asserts that the call was answered, and refused by every number that it can give.
+    pub fn assert_complete(&self, name: &str, possible: &[usize]) {
+        assert!(self.0[0] > 0, "{} was never answered", name);
+        for number in possible {
+            assert!(self.0[*number] > 0, "{} was never refused with {}", name, number);
+        }
+    }
+}
+
+/// Counts of the calls that the runner makes too.
+#[derive(Default)]
+pub struct Tally([Numbers; CALLS]);
+
+impl Tally {
+    /// Counts a call by its index, and its refusal or none.
+    pub fn count(&mut self, call: usize, refused: Option<Refused>) {
+        self.0[call].count(refused);
+    }
+
+    pub fn total(&self) -> u64 {
+        self.0.iter().map(Numbers::total).sum()
+    }
+
+    pub fn lines(&self) -> Vec<String> {
+        NAMES.iter().zip(&self.0).flat_map(|(name, numbers)| numbers.lines(name)).collect()
+    }
+
     pub fn assert_complete(&self, possible: [&[usize]; CALLS]) {
-        for ((name, counts), possible) in NAMES.iter().zip(&self.0).zip(possible) {
-            assert!(counts[0] > 0, "{} was never answered", name);
-            for number in possible {
-                assert!(counts[*number] > 0, "{} was never refused with {}", name, number);
-            }
+        for ((name, numbers), possible) in NAMES.iter().zip(&self.0).zip(possible) {
+            numbers.assert_complete(name, possible);
         }
     }
 }

@@ -1,7 +1,8 @@
 //! Cases with the numbers that are stated for them: the table of rule 17.1, and vectors that see what the table does not.
 
+use crate::calls::Day;
 use crate::hex;
-use crate::solver::{self, Case, Judged, Priced, Refused, Reply, Unit};
+use crate::solver::{self, Case, History, Judged, Priced, Refused, Reply, Unit};
 
 /// The file of case U5 (rule 15.5).
 const U5: &str = "0001000100000005000c001e000000000000271003e800000002000a000000000000000000010004\
@@ -633,6 +634,300 @@ fn check_floorings() -> usize {
     floorings.len()
 }
 
+/// A day, how many bytes of the trace and histories there is room for, and what is stated of it.
+pub struct Schedule {
+    case: Case,
+    demands: Vec<u32>,
+    trace_room: usize,
+    histories_room: usize,
+    expected: Result<Scheduled, u32>,
+}
+
+/// Cost and gap of each slot, none where it is refused with 11; the total; previous output and starts of each unit.
+struct Scheduled {
+    slots: Vec<Option<(u64, u64)>>,
+    total: i64,
+    histories: Vec<(u16, u16)>,
+}
+
+/// A day of units in edition 1, or in edition 2 where one of them has a b1; with just room enough.
+fn schedule(units: &[Unit], demands: &[u32], slots: &[Option<(u64, u64)>], total: i64, histories: &[(u16, u16)]) -> Schedule {
+    let edition = if units.iter().any(|unit| unit.b1 != 0) { 2 } else { 1 };
+    let expected = Ok(Scheduled { slots: slots.to_vec(), total, histories: histories.to_vec() });
+    let case = Case { edition, demand: 5, units: units.to_vec() };
+    Schedule { case, demands: demands.to_vec(), trace_room: 18 * demands.len(), histories_room: 32, expected }
+}
+
+/// The same refused, with this room.
+fn unscheduled(units: &[Unit], demands: &[u32], trace_room: usize, histories_room: usize, number: u32) -> Schedule {
+    Schedule { trace_room, histories_room, expected: Err(number), ..schedule(units, demands, &[], 0, &[]) }
+}
+
+/// The same of a file with this demand.
+fn of_demand(demand: i128, schedule: Schedule) -> Schedule {
+    Schedule { case: Case { demand, ..schedule.case }, ..schedule }
+}
+
+impl Schedule {
+    pub fn day(&self) -> Day {
+        Day {
+            file: solver::encode(&self.case),
+            demands: self.demands.clone(),
+            trace_room: self.trace_room,
+            histories_room: self.histories_room,
+            answers_room: 1,
+        }
+    }
+
+    /// The trace, the histories and the answer as they have to be in the end.
+    fn stated_buffers(&self) -> (Vec<u8>, Vec<History>, i64) {
+        let refused = Scheduled { slots: vec![], total: i64::MIN, histories: vec![] };
+        let stated = self.expected.as_ref().unwrap_or(&refused);
+        let mut trace: Vec<u8> = stated.slots.iter().flat_map(|slot| bytes_of_slot(*slot)).collect();
+        let mut histories: Vec<History> =
+            stated.histories.iter().map(|(previous, starts)| History { previous: *previous, starts: *starts }).collect();
+        trace.resize(self.trace_room, FILL_BYTE);
+        histories.resize(self.histories_room, FILL_HISTORY);
+        (trace, histories, stated.total)
+    }
+}
+
+/// The days of the examples of section 21, and others that tell wrong rules apart.
+pub fn schedules() -> Vec<Schedule> {
+    [stated_schedules(), further_schedules(), refused_schedules()].into_iter().flatten().collect()
+}
+
+/// The table of rule 21.10, but for what is refused.
+fn stated_schedules() -> Vec<Schedule> {
+    let solved = |cost, gap| Some((cost, gap));
+    let stood = Some((0, 0));
+    let loose = |unit: Unit| Unit { up: 10_000, down: 10_000, ..unit };
+    let previous = |previous, unit: Unit| Unit { previous, ..unit };
+    let costly = Unit { c0: 1_000_000_000, ..loose(u_must_run()) };
+    let slots_of_u = [solved(119_000, 42_000), stood, solved(200_000, 0), None, solved(200_000, 140_000)];
+    let five = solved(119_000, 42_000);
+    let two_us = [solved(63_000, 0), solved(63_000, 0), stood, solved(63_000, 0)];
+    vec![
+        schedule(&[u()], &[5, 0, 10, 11, 3], &slots_of_u, 519_000, &[(10, 2)]),
+        of_demand(11, schedule(&[u()], &[5], &[five], 119_000, &[(7, 1)])),
+        schedule(&[previous(7, u())], &[], &[], 0, &[(7, 0)]),
+        schedule(&[u()], &[2, 0, 10], &[solved(24_000, 0), stood, solved(200_000, 0)], 224_000, &[(10, 2)]),
+        schedule(&[loose(u())], &[5, 11, 5], &[five, None, five], 238_000, &[(7, 1)]),
+        schedule(&[previous(7, loose(u()))], &[5, 0, 5], &[five, stood, five], 238_000, &[(7, 1)]),
+        schedule(&[u_must_run()], &[2, 10, 2], &[solved(24_000, 0), None, solved(24_000, 0)], 48_000, &[(2, 1)]),
+        schedule(&[previous(5, u_must_run())], &[0, 5], &[None, None], 0, &[(5, 0)]),
+        schedule(&[Unit { up: 3, ..previous(5, u()) }], &[7, 8], &[solved(119_000, 0), solved(144_000, 0)], 263_000, &[(8, 0)]),
+        schedule(&[u(), u()], &[5, 5, 0, 5], &two_us, 189_000, &[(2, 2), (3, 2)]),
+        schedule(&[Unit { b: 1, ..u() }], &[5, 10, 11], &[solved(119_000, 41_999), None, None], 119_000, &[(7, 1)]),
+        schedule(&[costly], &[5; 5], &[solved(1_000_119_000, 42_000); 5], 5_000_595_000, &[(7, 1)]),
+        schedule(
+            &[Unit { up: 3, down: 3, ..u() }],
+            &[7, 11, 4],
+            &[solved(119_000, 0), None, solved(56_000, 0)],
+            175_000,
+            &[(4, 1)],
+        ),
+        schedule(&[with_b1(-10_000_000)], &[5, 11, 12], &[solved(119_000, 51_600), None, None], 119_000, &[(7, 1)]),
+    ]
+}
+
+fn further_schedules() -> Vec<Schedule> {
+    let solved = |cost, gap| Some((cost, gap));
+    let stood = Some((0, 0));
+    let five = solved(119_000, 42_000);
+    let with_steps = |up, down, unit: Unit| Unit { up, down, ..unit };
+    let without_zone = || with_steps(1, 1, Unit { zones: vec![], ..u() });
+    let unlike = unlike();
+    let unlike_with_b1 = [Unit { b1: 5_000_000, ..unlike[0].clone() }, Unit { b1: -3_000_000, ..unlike[1].clone() }];
+    let of_unlike = [15, 26, 12, 30, 0, 15, 32, 24, 10];
+    let starting = [with_c0(0), with_c0(60_000)].map(|unit| with_steps(10_000, 10_000, unit));
+    let tied = vec![Unit { c0: 6_000, ..without_zone() }; 3];
+    let greatest = Unit { c0: 1_000_000_000, c1: 10_000_000, least: 1, greatest: 10_000, zones: vec![], ..u_must_run() };
+    vec![
+        // no demand, also where there is room for a slot
+        schedule(&[u()], &[], &[], 0, &[(0, 0)]),
+        Schedule { trace_room: 18, histories_room: 33, ..schedule(&[u()], &[], &[], 0, &[(0, 0)]) },
+        // the start is counted behind a refused slot, where the unit stood before it
+        schedule(&[with_steps(10_000, 10_000, u())], &[0, 11, 5], &[stood, None, five], 119_000, &[(7, 1)]),
+        // a previous output of the file above greatest, from which no ramp leads to it, or one does; and one that is permitted
+        schedule(&[Unit { previous: 12, ..u() }], &[0, 5, 5], &[stood, five, solved(119_000, 34_000)], 238_000, &[(7, 1)]),
+        schedule(&[Unit { previous: 12, up: 1, down: 2, ..u() }], &[10], &[solved(200_000, 0)], 200_000, &[(10, 0)]),
+        schedule(&[Unit { previous: 10, ..u() }], &[5, 0, 5], &[solved(200_000, 100_000), stood, five], 319_000, &[(7, 1)]),
+        // a window that moves step by step, and is left by standing
+        schedule(
+            &[without_zone()],
+            &[5, 6, 9, 7, 8, 4, 0, 9],
+            &[
+                solved(75_000, 0),
+                solved(96_000, 0),
+                None,
+                solved(119_000, 0),
+                solved(144_000, 0),
+                solved(119_000, 51_000),
+                stood,
+                solved(171_000, 0),
+            ],
+            724_000,
+            &[(9, 2)],
+        ),
+        // up and down are not the same
+        schedule(
+            &[with_steps(2, 1, Unit { zones: vec![], ..u_must_run() })],
+            &[3, 6, 3, 2, 5, 9, 9],
+            &[solved(39_000, 0), None, solved(39_000, 0), solved(24_000, 0), None, None, None],
+            102_000,
+            &[(2, 1)],
+        ),
+        // zones that share an edge
+        schedule(
+            &[with_steps(1, 1, sharing())],
+            &[7, 8, 7, 0, 8],
+            &[solved(119_000, 0), None, solved(119_000, 0), stood, solved(171_000, 26_000)],
+            409_000,
+            &[(9, 2)],
+        ),
+        // each unit has its own history: unlike ones, in both editions
+        schedule(
+            &unlike,
+            &of_unlike,
+            &[
+                solved(350_367, 25_844),
+                None,
+                solved(299_522, 41_999),
+                None,
+                solved(89_000, 0),
+                solved(350_367, 25_844),
+                None,
+                None,
+                solved(236_522, 18_999),
+            ],
+            1_325_778,
+            &[(4, 0), (7, 2)],
+        ),
+        schedule(
+            &unlike_with_b1,
+            &of_unlike,
+            &[
+                solved(378_012, 49_784),
+                None,
+                solved(262_367, 759),
+                None,
+                solved(74_000, 0),
+                solved(378_012, 49_784),
+                None,
+                solved(630_702, 24_569),
+                solved(463_457, 203_456),
+            ],
+            2_186_550,
+            &[(10, 0), (10, 2)],
+        ),
+        schedule(
+            &starting,
+            &[9, 5, 9, 0, 20],
+            &[solved(348_000, 179_000), five, solved(348_000, 179_000), stood, solved(460_000, 0)],
+            1_275_000,
+            &[(10, 2), (10, 3)],
+        ),
+        // ties are lowered, so that not all start
+        schedule(
+            &tied,
+            &[5, 5, 4, 8, 8, 0, 5],
+            &[
+                solved(90_000, 15_000),
+                solved(90_000, 15_000),
+                solved(90_000, 30_000),
+                solved(135_000, 15_000),
+                solved(135_000, 15_000),
+                stood,
+                solved(90_000, 15_000),
+            ],
+            630_000,
+            &[(0, 1), (3, 2), (3, 2)],
+        ),
+        // 32 units
+        schedule(
+            &vec![u(); 32],
+            &[70, 70, 64, 0, 100, 320],
+            &[solved(858_000, 0), solved(858_000, 0), solved(780_000, 0), stood, solved(1_316_000, 0), None],
+            3_812_000,
+            &[[(3, 2); 28].as_slice(), &[(4, 2); 4]].concat(),
+        ),
+        // the greatest total that there is
+        schedule(
+            &vec![greatest; 32],
+            &[320_000; 96],
+            &[solved(6_432_000_000_000, 0); 96],
+            617_472_000_000_000,
+            &[(10_000, 1); 32],
+        ),
+    ]
+}
+
+fn refused_schedules() -> Vec<Schedule> {
+    let rising: Vec<u32> = (0..97).collect();
+    let wrong_edge = Unit { zones: vec![(2, 7)], ..u() };
+    let excessive = with_b1(10_000_001);
+    let of_edition_3 = |schedule: Schedule| Schedule { case: Case { edition: 3, ..schedule.case }, ..schedule };
+    vec![
+        // too many demands, and one too great; also where there is too little room
+        unscheduled(&[u()], &rising, 1_746, 32, 22),
+        unscheduled(&[u()], &rising, 0, 0, 22),
+        unscheduled(&[u()], &[320_001], 18, 32, 22),
+        unscheduled(&[u()], &[320_001], 17, 31, 22),
+        unscheduled(&[u()], &[320_001, 5, 7], 54, 32, 22),
+        unscheduled(&[u()], &[5, 7, 320_001], 54, 32, 22),
+        unscheduled(&[u()], &[5, 327_685, 7], 54, 32, 22),
+        unscheduled(&[u()], &[u32::MAX], 18, 32, 22),
+        // too little room
+        unscheduled(&[u()], &[5], 17, 32, 23),
+        unscheduled(&[u()], &[5], 18, 31, 23),
+        unscheduled(&[u()], &[5], 18, 1, 23),
+        unscheduled(&[u()], &[], 0, 31, 23),
+        unscheduled(&[u()], &rising[..96], 1_727, 32, 23),
+        // both before the file's own number, which is given without a demand too
+        unscheduled(&[wrong_edge.clone()], &[5], 18, 32, 9),
+        unscheduled(&[wrong_edge.clone()], &[], 0, 32, 9),
+        unscheduled(&[wrong_edge.clone()], &[5], 18, 31, 23),
+        unscheduled(&[wrong_edge], &[320_001], 18, 31, 22),
+        of_edition_3(unscheduled(&[u()], &[5], 18, 32, 3)),
+        of_edition_3(unscheduled(&[u()], &[], 0, 32, 3)),
+        of_edition_3(unscheduled(&[u()], &[], 0, 31, 23)),
+        of_edition_3(unscheduled(&[u()], &rising, 0, 31, 22)),
+        of_demand(320_001, unscheduled(&[u()], &[5], 18, 32, 5)),
+        of_demand(320_001, unscheduled(&[u()], &[], 0, 32, 5)),
+        unscheduled(&[Unit { mark: 2, ..u() }], &[5], 18, 32, 10),
+        unscheduled(&[excessive.clone()], &[5], 18, 32, 18),
+        unscheduled(&[excessive.clone()], &[], 0, 32, 18),
+        unscheduled(&[excessive.clone()], &[5], 17, 32, 23),
+        unscheduled(&[excessive], &[320_001], 17, 32, 22),
+    ]
+}
+
+/// What lies in the buffers of a stated day before it is solved.
+const FILL_BYTE: u8 = 0xA5;
+const FILL_HISTORY: History = History { previous: 0xA5A5, starts: 0x5A5A };
+
+fn check_schedules() -> usize {
+    let schedules = schedules();
+    for vector in &schedules {
+        let day = vector.day();
+        let mut trace = vec![FILL_BYTE; day.trace_room];
+        let mut histories = vec![FILL_HISTORY; day.histories_room];
+        let mut answers = [i64::MIN];
+        let number = solver::panel_day(&day.file, &day.demands, &mut trace, &mut histories, &mut answers);
+        assert_eq!(number, vector.expected.as_ref().err().copied().unwrap_or(0), "{:?} of {:?}", day.demands, vector.case);
+        let stated = vector.stated_buffers();
+        assert_eq!((trace, histories, answers[0]), stated, "{:?} of {:?}", day.demands, vector.case);
+    }
+    schedules.len()
+}
+
+fn bytes_of_slot(slot: Option<(u64, u64)>) -> Vec<u8> {
+    let status: u16 = if slot.is_some() { 0 } else { 11 };
+    let (cost, gap) = slot.unwrap_or((0, 0));
+    [&status.to_be_bytes()[..], &cost.to_be_bytes(), &gap.to_be_bytes()].concat()
+}
+
 /// Asserts every number that is stated; tells how many vectors there are.
 pub fn check() -> usize {
     let u5 = solver::encode(&u5());
@@ -646,7 +941,8 @@ pub fn check() -> usize {
     for vector in &vectors {
         check_vector(vector);
     }
-    vectors.len() + PRICINGS.len() + VIEWS.len() + check_edition_2() + check_judgements() + check_floorings()
+    let of_calls = check_edition_2() + check_judgements() + check_floorings() + check_schedules();
+    vectors.len() + PRICINGS.len() + VIEWS.len() + of_calls
 }
 
 /// Asserts what is stated of edition 2 beside its cases; tells how many numbers that is.

@@ -1,15 +1,22 @@
 // The panel's calls, as C sees them: a slice is a pointer and then a length, an answer is a number. Each does what the call on
-// slices does and tells its answer in numbers (rules 14.1 to 14.4, 18.8, 19.7, 20.8). `include/shahfureel.h` declares them.
+// slices does and tells its answer in numbers (rules 14.1 to 14.4, 18.8, 19.7, 20.8, 21.9). `include/shahfureel.h` declares them.
 ghost use mathlib.Core.Path.{_≡_};
 ghost use mathlib.Core.Bool.{cond};
 ghost use mathlib.Core.List.{[], _∷_};
+ghost use Prim.Native.Nat.{_≤_};
 ghost use lib.IntN.{pos};
+ghost use lib.ListN.{length};
 ghost use Rattle.rules.specs.Calls.{panelDispatched, panelPriced, panelPacked, panelUnpacked};
 ghost use Rattle.rules.specs.Lists.{over};
 ghost use Rattle.modbus.specs.View.{panelViewed};
 ghost use Rattle.judging.specs.Judging.{panelJudged};
 ghost use Rattle.sensitivity.specs.Floors.{panelFloored};
+ghost use Rattle.day.specs.Day.{panelScheduled};
+ghost use Rattle.day.specs.Contracts.{totalOf};
 ghost use Rattle.panel.specs.Contracts.{Answerable};
+ghost use Rattle.panel.specs.DayTold.{fileFor, numberTold, answersTold};
+use day::History;
+use day::Scheduled;
 use judging::Judged;
 use modbus::Viewed;
 use rules::Dispatched;
@@ -164,4 +171,46 @@ pub extern "C" fn shahfureel_floors(
             0
         }
     }
+}
+
+// The file, or none of it where the total has no place: then the call refuses it and writes nothing.
+fn file_for<'a>(file: &'a [u8], room: usize) -> &'a [u8]
+    ensures { λ r. ⌜ now r ≡ fileFor (now (file .entry)) room ⌝ }
+{
+    if room < 1 {
+        return &file[..0];
+    }
+    file
+}
+
+// Writes the total, if there is one and a place for it, and gives the number.
+fn tell(s: Scheduled, answers: &mut [i64]) -> u32
+    requires { ⌜ totalOf s ≤ 617472000000000 ⌝ }
+    ensures { λ r. ⌜ (r ≡ numberTold s (length (now (answers .entry)))) × (now (answers .exit) ≡ answersTold s (now (answers .entry))) ⌝ }
+{
+    if 1 > answers.len() {
+        return 1;
+    }
+    match s {
+        Scheduled::Refused(r) => refusal_number::number(r),
+        Scheduled::Total(t) => {
+            answers[0] = t as i64;
+            0
+        }
+    }
+}
+
+#[no_mangle]
+pub extern "C" fn shahfureel_day(
+    file: &[u8],
+    demands: &[u32],
+    trace: &mut [u8],
+    histories: &mut [History],
+    answers: &mut [i64],
+) -> u32
+    ensures { λ r. ⌜ panelScheduled (now (file .entry)) (now (demands .entry)) (now (trace .entry)) (now (histories .entry)) (now (answers .entry)) ≡ record { number = r; trace = now (trace .exit); histories = now (histories .exit); answers = now (answers .exit) } ⌝ }
+{
+    let own = file_for(file, answers.len());
+    let s = day::day(own, demands, trace, histories);
+    tell(s, answers)
 }

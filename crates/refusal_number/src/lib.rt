@@ -28,5 +28,7 @@ pub fn number(r: Refusal) -> u32
         Refusal::OutputCountInvalid => 19,
         Refusal::DemandsInvalid => 20,
         Refusal::FloorsTooShort => 21,
+        Refusal::DayDemandsInvalid => 22,
+        Refusal::DayBuffersTooShort => 23,
     }
 }

@@ -31,6 +31,8 @@ use Rattle.rules.specs.declared.Refusal.the-variants.{
   OutputCountInvalid,
   DemandsInvalid,
   FloorsTooShort,
+  DayDemandsInvalid,
+  DayBuffersTooShort,
 }
 use Rattle.rules.specs.declared.Dispatched.{Dispatched}
 use Rattle.rules.specs.declared.Packed.{Packed}
@@ -62,6 +64,8 @@ number-below-30 LossesOutOfRange = omega arith
 number-below-30 OutputCountInvalid = omega arith
 number-below-30 DemandsInvalid = omega arith
 number-below-30 FloorsTooShort = omega arith
+number-below-30 DayDemandsInvalid = omega arith
+number-below-30 DayBuffersTooShort = omega arith
 
 -- ---- lengths
 

@@ -12,7 +12,7 @@ use lib.ListN.{getD, drop}
 use lib.Seq.{getD-drop}
 use lib.Signed.{_<ℤ_}
 use borrow.Author.Tests.{eqb-true, eq-eqb}
-use Rattle.rules.specs.Unit.{Unit, Zone, zoneAt, zones}
+use Rattle.rules.specs.Unit.{Unit, Zone, zoneAt, zones, withPrevious}
 use Rattle.rules.specs.Refusal.{zonesAscend, startsAbove, unusedEdgesZero, lossesOutOfRange, unitVerdict}
 use Rattle.rules.specs.Losses.{LinearLossInRange}
 use Rattle.rules.specs.declared.Verdict.the-variants.{Accepted}
@@ -136,3 +136,27 @@ module _ {u : Unit} (s : Sound u) where
       by : Dec (k < 2 * u .zoneCount) → getD (u .edges) k 0 ≤ 10000
       by (yes h) = omega (arith, edge-between k h)
       by (no h) = omega (arith, s .unused k (omega arith))
+
+-- ---- another previous output
+
+pub sound-previous : (u : Unit) (p : ℕ) → Sound u → p ≤ 10000 → Sound (withPrevious u p)
+unfolding withPrevious zones
+sound-previous u p s h =
+    record {
+      zoneCount = s .zoneCount;
+      unused = s .unused;
+      c0 = s .c0;
+      c1 = s .c1;
+      c2 = s .c2;
+      b = s .b;
+      losses = record { range = record { least = s .losses .range .least; greatest = s .losses .range .greatest }; rises = s .losses .rises };
+      least = s .least;
+      range = s .range;
+      greatest = s .greatest;
+      above = s .above;
+      ascend = s .ascend;
+      previous = h;
+      up = s .up;
+      down = s .down;
+      mark = s .mark;
+    }

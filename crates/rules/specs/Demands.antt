@@ -1,4 +1,4 @@
--- Rule 20.1 of docs/SPECIFICATION.md: which lists of demands a call answers for, at most 96 demands, none above 320,000 steps.
+-- Rules 20.1 and 21.1 of docs/SPECIFICATION.md: which lists of demands a call answers for, at most 96 demands, none above 320,000 steps.
 use Prim.Native.Nat.{ℕ, _≤_}
 use mathlib.Core.Bool.{Bool, not, _||_}
 use mathlib.Core.List.{List}

@@ -1,4 +1,4 @@
--- Rules 4.1 to 4.10 of docs/SPECIFICATION.md: the refusals, their numbers, and the checks of a file and of a unit in their order. (The order of each call as a whole is in `Calls`, in `modbus/specs/View`, `judging/specs/Judging` and `sensitivity/specs/Floors`.)
+-- Rules 4.1 to 4.10 of docs/SPECIFICATION.md: the refusals, their numbers, and the checks of a file and of a unit in their order. (The order of each call as a whole is in `Calls`, in `modbus/specs/View`, `judging/specs/Judging`, `sensitivity/specs/Floors` and `day/specs/Day`.)
 use Prim.Native.Nat.{ℕ, zero, suc, _+_, _*_}
 use mathlib.Core.Bool.{Bool, true, cond, not, _&&_, _||_}
 use mathlib.Core.List.{List, [], _∷_}
@@ -32,6 +32,8 @@ use Rattle.rules.specs.declared.Refusal.the-variants.{
   OutputCountInvalid,
   DemandsInvalid,
   FloorsTooShort,
+  DayDemandsInvalid,
+  DayBuffersTooShort,
 }
 use Rattle.rules.specs.declared.Verdict.{Verdict}
 use Rattle.rules.specs.declared.Verdict.the-variants.{Accepted, Refused}
@@ -61,6 +63,8 @@ numberOf LossesOutOfRange = 18
 numberOf OutputCountInvalid = 19
 numberOf DemandsInvalid = 20
 numberOf FloorsTooShort = 21
+numberOf DayDemandsInvalid = 22
+numberOf DayBuffersTooShort = 23
 
 -- what checking finds, as a number: 0 where nothing is refused
 abbrev pub numberOfVerdict : Verdict → ℕ

@@ -24,6 +24,25 @@ pub record Unit : Type 0 where
   pub zoneCount : ℕ
   pub edges : List ℕ  -- four pairs of lower and upper edge, zero where unused
 
+-- (rule 21.2, since S-8) the unit with another previous output
+unfoldable pub withPrevious : Unit → ℕ → Unit
+withPrevious u p =
+    record {
+      c0 = u .c0;
+      c1 = u .c1;
+      c2 = u .c2;
+      b = u .b;
+      b1 = u .b1;
+      least = u .least;
+      greatest = u .greatest;
+      previous = p;
+      up = u .up;
+      down = u .down;
+      mark = u .mark;
+      zoneCount = u .zoneCount;
+      edges = u .edges;
+    }
+
 -- a prohibited operating zone
 pub record Zone : Type 0 where
   pub lower : ℕ

@@ -44,6 +44,10 @@ pub enum Refusal {
     DemandsInvalid,
     // A list for floors that is shorter than that of the demands.
     FloorsTooShort,
+    // Of a day: more than 96 demands, or one above 320,000 steps.
+    DayDemandsInvalid,
+    // Of a day: a trace under 18 bytes a demand, or under 32 histories.
+    DayBuffersTooShort,
 }
 
 // What checking finds.

@@ -21,9 +21,8 @@ use Rattle.rules.proofs.Encoding.SoundFile.{sound-head}
 use Rattle.casefile.proofs.Body.{verdictAt}
 use Rattle.casefile.proofs.File.{file-head, file-contents, file-bodies}
 use Rattle.site.specs.Site.{noOffer}
-use Rattle.site.specs.Contracts.{Site}
-use Rattle.site.specs.Contracts.{BodiesNamed}
-use Rattle.site.proofs.UnitsWritten.{UnitsWritten, Offering, units-start, problem-held, problem-unserved}
+use Rattle.site.specs.Contracts.{BodiesNamed, Offering, Site}
+use Rattle.site.proofs.UnitsWritten.{UnitsWritten, units-start, offering, problem-held, problem-unserved}
 
 -- ---- refusals of the file, and of a unit without a permitted output
 
@@ -39,23 +38,9 @@ module _ (file : List ℕ) where
   contents-refused h e = case-refused (file-contents file h e)
 
   -- the offers of the file's problem
-  units : List Unit
-  units = each (count file) (unitAt file)
-
-  mapped : {A B : Type 0} (f : A → B) (xs : List A) (n : ℕ) (d : A) (e : B) → n < length xs → getD (map f xs) n e ≡ f (getD xs n d)
-  mapped f [] n d e h = absurd (omega arith)
-  mapped f (x ∷ xs) zero d e h = refl
-  mapped f (x ∷ xs) (suc n) d e h = mapped f xs n d e (omega arith)
-
-  offering : {n : ℕ} → n ≡ count file → Offering (unitAt file) n (problemIn file)
-  unfolding problemOf caseOf units
-  offering e =
-      record {
-        count = length-map units offer ∙ length-each (count file) (unitAt file) ∙ sym e;
-        at = λ j h.
-            mapped offer units j (unitAt file j) noOffer (omega (arith, e, length-each (count file) (unitAt file)))
-            ∙ ap offer (getD-each (count file) (unitAt file) j (unitAt file j) (omega (arith, e)));
-      }
+  offering-file : {n : ℕ} → n ≡ count file → Offering (unitAt file) n (problemIn file)
+  unfolding caseOf
+  offering-file e = rw e (offering (unitAt file) (count file) (demand file))
 
 -- ---- the loop over the bodies
 
@@ -89,7 +74,7 @@ module _ {file : List ℕ} {n : ℕ} {coefficients ends ranges : List ℕ} {perm
       pub decoding-ends-unserved : permitted ≡ false → caseVerdict file ≡ Refused NoAllocation
       unfolding caseVerdict
       decoding-ends-unserved e =
-          rw (file-accepted, problem-unserved (offering file (b .units)) (written .unserved e))
+          rw (file-accepted, problem-unserved (offering-file file (b .units)) (written .unserved e))
 
       pub decoding-ends : permitted ≡ true → Site file coefficients ends ranges n (100000000 * demand file)
       unfolding problemOf caseOf
@@ -98,5 +83,5 @@ module _ {file : List ℕ} {n : ℕ} {coefficients ends ranges : List ℕ} {perm
           record {
             accepted = file-accepted;
             demanded = refl;
-            holds = problem-held (offering file (b .units)) (rw e at written) (omega (arith, b .units, head .count-greatest)) (head .demand-greatest);
+            holds = problem-held (offering-file file (b .units)) (rw e at written) (omega (arith, b .units, head .count-greatest)) (head .demand-greatest);
           }

@@ -1,19 +1,19 @@
 -- Units written one after the other, whichever they are: those passed are held, unless one of them has no permitted output. After the last the arrays hold every problem that offers these units; or none of these problems has a solution.
-use mathlib.Core.Path.{_≡_, refl, sym, _∙_}
+use mathlib.Core.Path.{_≡_, refl, sym, ap, _∙_}
 use mathlib.Core.Bool.{Bool, true, false, true≢false}
-use mathlib.Core.List.{List, []}
-use Prim.Native.Nat.{ℕ, _+_, _≤_, _<_}
+use mathlib.Core.List.{List, [], _∷_, map}
+use Prim.Native.Nat.{ℕ, zero, suc, _+_, _≤_, _<_}
 use native.Mathlib.Decide.{ℕ-discrete}
 use native.Mathlib.Omega.{arith}
 use lib.Dec.{ltb}
-use lib.ListN.{length, getD}
-use Rattle.rules.specs.Lists.{all}
+use lib.ListN.{length, getD, length-map}
+use Rattle.rules.specs.Lists.{all, each}
 use Rattle.rules.specs.Unit.{Unit}
-use Rattle.rules.specs.Problem.{Offer, Problem, offer}
+use Rattle.rules.specs.Problem.{Offer, Problem, offer, problemOf}
 use Rattle.rules.specs.Bisection.{solvable}
-use Rattle.rules.proofs.Lists.{every-at, all-every}
+use Rattle.rules.proofs.Lists.{every-at, all-every, length-each, getD-each}
 use Rattle.site.specs.Site.{HoldsOffer, HoldsProblem, noOffer}
-use Rattle.site.specs.Contracts.{UnitWritten}
+use Rattle.site.specs.Contracts.{UnitWritten, Offering, UnitsDecoded}
 
 -- ---- the loop over the units
 
@@ -54,10 +54,21 @@ module _ {unit : ℕ → Unit} {coefficients ends ranges : List ℕ} {permitted 
 
 -- ---- after the last
 
--- q offers the first n of these units, each with all its permitted outputs
-pub record Offering (unit : ℕ → Unit) (n : ℕ) (q : Problem) : Type 0 where
-  pub count : length (q .offers) ≡ n
-  pub at : (j : ℕ) → j < n → getD (q .offers) j noOffer ≡ offer (unit j)
+mapped : {A B : Type 0} (f : A → B) (xs : List A) (n : ℕ) (d : A) (e : B) → n < length xs → getD (map f xs) n e ≡ f (getD xs n d)
+mapped f [] n d e h = absurd (omega arith)
+mapped f (x ∷ xs) zero d e h = refl
+mapped f (x ∷ xs) (suc n) d e h = mapped f xs n d e (omega arith)
+
+-- a problem of these units offers them
+pub offering : (unit : ℕ → Unit) (n d : ℕ) → Offering unit n (problemOf (record { demand = d; units = each n unit }))
+unfolding problemOf
+offering unit n d =
+    record {
+      count = length-map (each n unit) offer ∙ length-each n unit;
+      at = λ j h.
+          mapped offer (each n unit) j (unit j) noOffer (omega (arith, length-each n unit))
+          ∙ ap offer (getD-each n unit j (unit j) h);
+    }
 
 module _ {unit : ℕ → Unit} {n : ℕ} {q : Problem} (o : Offering unit n q) where
   pub problem-held : {coefficients ends ranges : List ℕ} → UnitsWritten unit coefficients ends ranges true n → n ≤ 32 → q .demand ≤ 320000 → HoldsProblem coefficients ends ranges n q
@@ -76,3 +87,11 @@ module _ {unit : ℕ → Unit} {n : ℕ} {q : Problem} (o : Offering unit n q) w
       by true p =
           let held = every-at (λ o. some o ≡ true) (q .offers) (k .which) noOffer (all-every some (q .offers) .0 p) (omega (arith, o .count, k .below)) in
           absurd (true≢false (sym held ∙ rw (o .at (k .which) (k .below), k .none)))
+
+-- what is decoded of these units
+pub decoded : {unit : ℕ → Unit} {n : ℕ} {coefficients ends ranges : List ℕ} {permitted : Bool} → UnitsWritten unit coefficients ends ranges permitted n → n ≤ 32 → UnitsDecoded unit n coefficients ends ranges permitted
+decoded d few =
+    record {
+      holds = λ e q o demand. problem-held o (rw e at d) few demand;
+      none = λ e q o. problem-unserved o (d .unserved e);
+    }

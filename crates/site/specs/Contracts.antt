@@ -1,17 +1,19 @@
 -- What each function requires and leaves while a site is written: a unit in its places of the arrays, and the other units kept; and what decoding a file gives.
-use Prim.Native.Nat.{ℕ, _+_, _*_, _<_}
+use Prim.Native.Nat.{ℕ, _+_, _*_, _≤_, _<_}
 use mathlib.Core.Path.{_≡_}
 use mathlib.Core.Bool.{Bool, true, false}
 use mathlib.Core.List.{List, []}
-use Rattle.rules.specs.Unit.{Unit}
-use Rattle.rules.specs.Layout.{edition, count}
+use lib.ListN.{length, getD}
+use Rattle.rules.specs.Unit.{Unit, withPrevious}
+use Rattle.rules.specs.Layout.{edition, count, unitAt}
 use Rattle.rules.specs.Refusal.{headVerdict, contentsVerdict, fileVerdict}
-use Rattle.rules.specs.Problem.{Offer, offer, target, problemIn}
+use Rattle.rules.specs.Problem.{Offer, Problem, offer, target, problemIn}
+use Rattle.rules.specs.Bisection.{solvable}
 use Rattle.rules.specs.Calls.{caseVerdict}
 use Rattle.rules.specs.declared.Verdict.{Verdict}
 use Rattle.rules.specs.Sound.{Sound}
 use Rattle.regions.specs.Contracts.{KeptOutside}
-use Rattle.site.specs.Site.{first, last, Coefficients, HoldsOffer, HoldsProblem}
+use Rattle.site.specs.Site.{first, last, Coefficients, HoldsOffer, HoldsProblem, noOffer}
 use Rattle.site.specs.declared.Decoded.{Decoded}
 
 -- ---- one unit
@@ -44,6 +46,28 @@ pub record BodiesNamed (file : List ℕ) (e n : ℕ) : Type 0 where
   pub head : headVerdict file ≡ Verdict.Accepted
   pub contents : contentsVerdict file ≡ Verdict.Accepted
   pub units : n ≡ count file
+
+-- ---- units decoded, whichever they are
+
+-- q offers the first n of these units, each with all its permitted outputs
+pub record Offering (unit : ℕ → Unit) (n : ℕ) (q : Problem) : Type 0 where
+  pub count : length (q .offers) ≡ n
+  pub at : (j : ℕ) → j < n → getD (q .offers) j noOffer ≡ offer (unit j)
+
+-- every problem that offers these units is held; or, where one of them has no permitted output, none has a solution
+pub record UnitsDecoded (unit : ℕ → Unit) (n : ℕ) (coefficients ends ranges : List ℕ) (some : Bool) : Type 0 where
+  pub holds : some ≡ true → (q : Problem) → Offering unit n q → q .demand ≤ 320000 → HoldsProblem coefficients ends ranges n q
+  pub none : some ≡ false → (q : Problem) → Offering unit n q → solvable q ≡ false
+
+-- the units of a file with other previous outputs
+abbrev pub unitWith : List ℕ → List ℕ → ℕ → Unit
+unitWith file previous i = withPrevious (unitAt file i) (getD previous i 0)
+
+-- an accepted file of n units, and a previous output for each
+pub record PreviousGiven (file : List ℕ) (n : ℕ) (previous : List ℕ) : Type 0 where
+  pub accepted : fileVerdict file ≡ Verdict.Accepted
+  pub units : n ≡ count file
+  pub small : (i : ℕ) → i < n → getD previous i 0 ≤ 10000
 
 -- ---- what decoding a file gives: its problem in the arrays, where every unit has a permitted output; or the refusal of the case
 

@@ -5,8 +5,7 @@ ghost use lib.ListN.{length};
 ghost use Rattle.rules.specs.Unit.{linearFactor};
 ghost use Rattle.rules.specs.Sound.{Sound};
 ghost use Rattle.unit.specs.UnitHeld.{unitHeld};
-ghost use Rattle.site.specs.Contracts.{Decodes};
-ghost use Rattle.site.specs.Contracts.{UnitWritable, CoefficientsWritten, RangeWritten, UnitWritten, BodiesNamed};
+ghost use Rattle.site.specs.Contracts.{UnitWritable, CoefficientsWritten, RangeWritten, UnitWritten, BodiesNamed, Decodes, unitWith, PreviousGiven, UnitsDecoded};
 use crate::Decoded;
 use rules::Refusal;
 use rules::Verdict;
@@ -100,6 +99,30 @@ fn decode_bodies(
         count: n,
         target: 100000000 * fields::read_u32(file, 4) as u64,
     }
+}
+
+// Decodes the `n` units of an accepted file with other previous outputs; gives whether each has a permitted output.
+pub fn decode_with(
+    file: &[u8],
+    n: usize,
+    previous: &[u16; 32],
+    coefficients: &mut [u64; 160],
+    ends: &mut [u16; 384],
+    ranges: &mut [u8; 64],
+) -> bool
+    requires { ⌜ PreviousGiven (now file) n (now previous) ⌝ }
+    ensures { λ r. ⌜ UnitsDecoded (unitWith (now (file .entry)) (now (previous .entry))) n (now (coefficients .exit)) (now (ends .exit)) (now (ranges .exit)) r ⌝ }
+{
+    let mut all_permitted = true;
+    let mut i = 0;
+    while i < n {
+        let u = unit::with_previous(casefile::read_unit(file, i), previous[i]);
+        if !write_unit(u, i, coefficients, ends, ranges) {
+            all_permitted = false;
+        }
+        i += 1;
+    }
+    all_permitted
 }
 
 // Checks and decodes a file. A unit without a permitted output is refused once every body is checked.

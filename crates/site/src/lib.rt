@@ -7,6 +7,7 @@
 mod decoding;
 
 pub use decoding::decode;
+pub use decoding::decode_with;
 pub use decoding::write_unit;
 use rules::Refusal;
 

@@ -5,7 +5,7 @@ ghost use Prim.Native.Nat.{_≤_};
 ghost use lib.Dec.{eqb};
 ghost use lib.ListN.{drop};
 ghost use Rattle.rules.specs.Lists.{all};
-ghost use Rattle.rules.specs.Unit.{zones};
+ghost use Rattle.rules.specs.Unit.{zones, withPrevious};
 ghost use Rattle.rules.specs.Refusal.{startsAbove, zonesAscend, zoneCountInvalid, coefficientOutOfRange, lossesOutOfRange, limitsInvalid, rampOrMarkOutOfRange, unitVerdict};
 ghost use Rattle.unit.specs.UnitHeld.{unitHeld};
 use rules::Refusal;
@@ -26,6 +26,42 @@ pub struct Unit {
     pub mark: u32,
     pub zone_count: u32,
     pub edges: [u32; 8],
+}
+
+// The unit with another previous output.
+pub fn with_previous(u: Unit, p: u16) -> Unit
+    ensures { λ r. ⌜ unitHeld r ≡ withPrevious (unitHeld u) p ⌝ }
+{
+    let Unit {
+        c0,
+        c1,
+        c2,
+        b,
+        b1,
+        least,
+        greatest,
+        up,
+        down,
+        mark,
+        zone_count,
+        edges,
+        ..
+    } = u;
+    Unit {
+        c0,
+        c1,
+        c2,
+        b,
+        b1,
+        least,
+        greatest,
+        previous: p as u32,
+        up,
+        down,
+        mark,
+        zone_count,
+        edges,
+    }
 }
 
 // Whether every edge from `first` on is zero.

@@ -1,0 +1,4 @@
+pub mod Day
+pub mod Contracts
+pub mod Claims
+pub mod Cases
