@@ -18,9 +18,9 @@ use Rattle.rules.proofs.Encoding.SoundFile.{sound-file, units-sound}
 use Rattle.day.specs.declared.History.{History}
 use Rattle.day.specs.declared.Columns.{Columns}
 use Rattle.day.specs.Day.{slotCase, Slots, oneSlot, slotsMore, slotsFrom, noSlot}
-use Rattle.day.specs.Contracts.{recordAt, none, copiedOut, copiedBack, blank, slotProblem, slotOf, slotTrace, Turn, turned, slotsAfter, Modest, Kept, Units, SlotAsks, TurnAsks, Ready}
+use Rattle.day.specs.Contracts.{recordAt, none, copiedOut, copiedBack, blank, slotProblem, slotOf, slotTrace, Turn, turned, slotsAfter, HistoryInRange, HistoriesInRange, Units, SlotAsks, TurnAsks, Ready}
 use Rattle.day.proofs.Records.{Full, out-full, out-at, out-each, back-over}
-use Rattle.day.proofs.OneSlot.{slot-long, outputs-long, slot-histories, slot-modest, slot-cost, slot-columns, slot-total, slot-trace}
+use Rattle.day.proofs.OneSlot.{slot-long, outputs-long, slot-histories, slot-in-range, slot-cost, slot-columns, slot-total, slot-trace}
 
 pub front-taken : {A : Type 0} {s₀ p s : List A} {k : ℕ} → Front s₀ p s k → take k s ≡ p
 front-taken {s₀ = s₀} {p} {s} {k} f = ap (take k) (f .whole) ∙ take-at p (drop k s₀) k (f .long)
@@ -36,16 +36,16 @@ pub record Folded (trace₀ : List ℕ) (histories₀ : List History) (n k : ℕ
   pub trace : Front trace₀ (s .trace) (t .trace) (18 * k)
   pub histories : Front histories₀ (s .histories) (t .histories) n
   pub cost : t .cost ≡ s .total
-  pub modest : Every (Modest k) (s .histories)
+  pub in-range : Every (HistoryInRange k) (s .histories)
 
-pub folded-none : (trace : List ℕ) (histories : List History) (n : ℕ) → n ≤ length histories → Kept n 0 histories → Folded trace histories n 0 (noSlot (take n histories)) (record { trace = trace; histories = histories; cost = 0 })
+pub folded-none : (trace : List ℕ) (histories : List History) (n : ℕ) → n ≤ length histories → HistoriesInRange n 0 histories → Folded trace histories n 0 (noSlot (take n histories)) (record { trace = trace; histories = histories; cost = 0 })
 folded-none trace histories n enough kept =
     record {
       trace = front-none trace;
       histories = record { long = length-take-le n histories enough; whole = sym (take-append-drop n histories) };
       cost = refl;
-      modest =
-          every-from (Modest 0) (take n histories) none
+      in-range =
+          every-from (HistoryInRange 0) (take n histories) none
           (λ i h. let b : i < n = omega (arith, length-take-le n histories enough) in rw (getD-take n histories i none b) (kept i b));
     }
 
@@ -77,7 +77,7 @@ module _ (file demands : List ℕ) (k n : ℕ) (units : Units file n) (few : n �
   long = f .histories .long ∙ sym (units-counted file n units)
 
   small : Every (λ h. h .previous ≤ 10000) (s .histories)
-  small = every-more (Modest k) (λ h. h .previous ≤ 10000) (λ h m. m .previous) (s .histories) (f .modest)
+  small = every-more (HistoryInRange k) (λ h. h .previous ≤ 10000) (λ h m. m .previous) (s .histories) (f .in-range)
 
   outputs : solvable (slotProblem file demands k n before) ≡ true → length (solve (slotProblem file demands k n before) .outputs) ≡ n
   outputs = rw held (λ e. outputs-long c (s .histories) d sound small long e ∙ f .histories .long)
@@ -104,7 +104,7 @@ module _ (file demands : List ℕ) (k n : ℕ) (units : Units file n) (few : n �
         trace = rw (eighteen, after-trace) (front-part (f .trace) (oneSlot c (s .histories) d .trace) 18 (slot-long c (s .histories) d));
         histories = front-again (f .histories) (slot-histories c (s .histories) d sound small long ∙ f .histories .long) after-histories;
         cost = ap₂ (λ (a b : ℕ). a + b) (f .cost) after-cost;
-        modest = slot-modest c (s .histories) d sound small long k (f .modest);
+        in-range = slot-in-range c (s .histories) d sound small long k (f .in-range);
       }
 
 -- ---- all of them
@@ -140,13 +140,13 @@ module _ (file demands : List ℕ) (m n : ℕ) (trace₀ : List ℕ) (histories�
         day = omega (arith, r .day);
         lent = omega (arith, r .lent, l);
         sound = r .sound (omega arith);
-        kept = rw e (λ i b. kept-at (f .histories) (f .modest) i b);
+        kept = rw e (λ i b. kept-at (f .histories) (f .in-range) i b);
       }
     where
-      kept-at : {k : ℕ} {p s : List History} → Front histories₀ p s n → Every (Modest k) p → (i : ℕ) → i < n → Modest k (getD s i none)
+      kept-at : {k : ℕ} {p s : List History} → Front histories₀ p s n → Every (HistoryInRange k) p → (i : ℕ) → i < n → HistoryInRange k (getD s i none)
       kept-at {k} {p} {s} g m i b =
           let e : getD s i none ≡ getD p i none = sym (getD-take n s i none b) ∙ ap (λ (l : List History). getD l i none) (front-taken g) in
-          rw e (every-at (Modest k) p i none m (omega (arith, g .long)))
+          rw e (every-at (HistoryInRange k) p i none m (omega (arith, g .long)))
 
 -- what is known of a slot that is asked for: its case is sound, so that its outputs are as many as the sets, and its cost is in range
 module _ (file demands : List ℕ) (k n room : ℕ) (before : Columns) (a : SlotAsks file demands k n room before) where

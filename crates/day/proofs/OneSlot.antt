@@ -26,7 +26,7 @@ use Rattle.day.specs.declared.History.{History}
 use Rattle.day.specs.declared.Columns.{Columns}
 use Rattle.day.specs.declared.SlotEnd.{SlotEnd}
 use Rattle.day.specs.Day.{eachWithPrevious, slotCase, historyAfter, historiesAfter, Slots, slotBytes, solvedSlot, refusedSlot, oneSlot}
-use Rattle.day.specs.Contracts.{recordAt, columnsAfter, slotProblem, slotOf, slotTrace, Modest}
+use Rattle.day.specs.Contracts.{recordAt, columnsAfter, slotProblem, slotOf, slotTrace, HistoryInRange}
 use Rattle.day.proofs.Records.{Full, after-each}
 
 -- ---- the case of a slot
@@ -59,14 +59,14 @@ counted : (b : Bool) (s k : ℕ) → s ≤ k → cond b (s + 1) s ≤ suc k
 counted true s k h = omega arith
 counted false s k h = omega arith
 
-modest-after : (k : ℕ) (hs : List History) (ps : List ℕ) → Every (Modest k) hs → Every (λ p. p ≤ 10000) ps → Every (Modest (suc k)) (historiesAfter hs ps)
-modest-after k [] ps m s = tt
-modest-after k (h ∷ hs) [] m s = tt
-modest-after k (h ∷ hs) (p ∷ ps) m s =
-    (record { previous = s .0; starts = counted (eqb (h .previous) 0 && ltb 0 p) (h .starts) k (m .0 .starts) }, modest-after k hs ps (m .1) (s .1))
+in-range-after : (k : ℕ) (hs : List History) (ps : List ℕ) → Every (HistoryInRange k) hs → Every (λ p. p ≤ 10000) ps → Every (HistoryInRange (suc k)) (historiesAfter hs ps)
+in-range-after k [] ps m s = tt
+in-range-after k (h ∷ hs) [] m s = tt
+in-range-after k (h ∷ hs) (p ∷ ps) m s =
+    (record { previous = s .0; starts = counted (eqb (h .previous) 0 && ltb 0 p) (h .starts) k (m .0 .starts) }, in-range-after k hs ps (m .1) (s .1))
 
-pub modest-more : (k : ℕ) (hs : List History) → Every (Modest k) hs → Every (Modest (suc k)) hs
-modest-more k hs = every-more (Modest k) (Modest (suc k)) (λ h m. record { previous = m .previous; starts = omega (arith, m .starts) }) hs
+pub in-range-more : (k : ℕ) (hs : List History) → Every (HistoryInRange k) hs → Every (HistoryInRange (suc k)) hs
+in-range-more k hs = every-more (HistoryInRange k) (HistoryInRange (suc k)) (λ h m. record { previous = m .previous; starts = omega (arith, m .starts) }) hs
 
 -- ---- a slot of the rules
 
@@ -111,13 +111,13 @@ module _ (c : Case) (hs : List History) (d : ℕ) where
         by true e = after-long hs (solve q .outputs) (outputs-long e)
         by false e = refl
 
-    pub slot-modest : (k : ℕ) → Every (Modest k) hs → Every (Modest (suc k)) (oneSlot c hs d .histories)
+    pub slot-in-range : (k : ℕ) → Every (HistoryInRange k) hs → Every (HistoryInRange (suc k)) (oneSlot c hs d .histories)
     unfolding oneSlot
-    slot-modest k m = by (solvable q) refl
+    slot-in-range k m = by (solvable q) refl
       where
-        by : (b : Bool) → solvable q ≡ b → Every (Modest (suc k)) (cond b (solvedSlot hs (solve q)) (refusedSlot hs) .histories)
-        by true e = modest-after k hs (solve q .outputs) m (outputs-small e)
-        by false e = modest-more k hs m
+        by : (b : Bool) → solvable q ≡ b → Every (HistoryInRange (suc k)) (cond b (solvedSlot hs (solve q)) (refusedSlot hs) .histories)
+        by true e = in-range-after k hs (solve q .outputs) m (outputs-small e)
+        by false e = in-range-more k hs m
 
     pub slot-cost : length hs ≤ 32 → oneSlot c hs d .total ≤ 6432000000000
     unfolding oneSlot

@@ -22,7 +22,7 @@ use Rattle.day.specs.declared.History.{History}
 use Rattle.day.specs.declared.Opening.{Opening}
 use Rattle.day.specs.declared.Scheduled.{Scheduled}
 use Rattle.day.specs.Day.{Slots, historiesOf, noSlot, slotsFrom, dayOf, dayVerdict, DayResult, dayEnds, scheduled}
-use Rattle.day.specs.Contracts.{recordAt, none, copiedBack, blank, firstColumns, Turn, slotsAfter, Modest, Kept, Units, Ready, opened, openingOf, endedOf, totalOf}
+use Rattle.day.specs.Contracts.{recordAt, none, copiedBack, blank, firstColumns, Turn, slotsAfter, HistoryInRange, HistoriesInRange, Units, Ready, opened, openingOf, endedOf, totalOf}
 use Rattle.day.proofs.Records.{back-front, first-each}
 use Rattle.day.proofs.Folding.{front-taken, Folded, folded}
 
@@ -94,7 +94,7 @@ first-of file few = first-each file (count file) few ∙ map-each (λ (u : Unit)
 
 -- the records set are those of the columns
 module _ (file demands : List ℕ) (room : ℕ) (hs : List History) where
-  first-kept : (v : Verdict) → dayVerdict file demands room (length hs) ≡ v → let o = opened file demands v in Kept (o .sets) 0 (copiedBack (o .first) (o .sets) hs)
+  first-kept : (v : Verdict) → dayVerdict file demands room (length hs) ≡ v → let o = opened file demands v in HistoriesInRange (o .sets) 0 (copiedBack (o .first) (o .sets) hs)
   first-kept (Verdict.Refused r) e i h = absurd (omega (arith, h))
   first-kept Verdict.Accepted e i h =
       let p = passes file demands room (length hs) Verdict.Accepted e in
@@ -112,7 +112,7 @@ module _ (file demands : List ℕ) (room : ℕ) (hs : List History) where
   ready ys o eo ey l =
       let v = dayVerdict file demands room (length hs) in
       let p : Passes file demands (o .slots) (o .sets) room (length hs) = subst (λ (q : Opening). Passes file demands (q .slots) (q .sets) room (length hs)) (sym eo) (passes file demands room (length hs) v refl) in
-      let k : Kept (o .sets) 0 (copiedBack (o .first) (o .sets) hs) = subst (λ (q : Opening). Kept (q .sets) 0 (copiedBack (q .first) (q .sets) hs)) (sym eo) (first-kept v refl) in
+      let k : HistoriesInRange (o .sets) 0 (copiedBack (o .first) (o .sets) hs) = subst (λ (q : Opening). HistoriesInRange (q .sets) 0 (copiedBack (q .first) (q .sets) hs)) (sym eo) (first-kept v refl) in
       record {
         few = p .few;
         enough = omega (arith, l, p .enough);

@@ -13,6 +13,7 @@ use Rattle.rules.specs.CaseFiles.{u5, shortHead, otherEdition, noUnit, demandAb
 use Rattle.rules.specs.Unit as units
 use Rattle.day.specs.declared.History.{History}
 use Rattle.day.specs.declared.Scheduled.{Scheduled}
+use Rattle.day.specs.Claims.{joined}
 use Rattle.day.specs.Day.{slotCase, slotBytes, oneSlot, slotsMore, dayOf, dayVerdict, dayEnds, scheduled, panelScheduled}
 
 pub data Call : Type 0 where
@@ -54,10 +55,6 @@ answer (verdict file demands room records) = checks (numberOfVerdict (dayVerdict
 answer (panelPlan file demands room records answers) = let r = panelScheduled file demands (bytesLent room) (recordsLent records) answers in returns (r .number) (r .trace) (r .histories) (r .answers)
 
 -- ---- rows: three bytes more than the slots take, and 33 records
-
-abbrev pub joined : List (List ℕ) → List ℕ
-joined [] = []
-joined (s ∷ rest) = s ++ joined rest
 
 abbrev pub solved : ℕ → ℕ → List ℕ
 solved cost gap = slotBytes 0 cost gap

@@ -106,13 +106,13 @@ slotsAfter file demands n (suc j) t =
     record { trace = u .trace; histories = u .histories; cost = s .cost + u .cost }
 
 -- a history after at most k slots
-pub record Modest (k : ℕ) (h : History) : Type 0 where
+pub record HistoryInRange (k : ℕ) (h : History) : Type 0 where
   pub previous : h .previous ≤ 10000
   pub starts : h .starts ≤ k
 
 -- the first n records are such
-abbrev pub Kept : ℕ → ℕ → List History → Type 0
-Kept n k hs = (i : ℕ) → i < n → Modest k (getD hs i none)
+abbrev pub HistoriesInRange : ℕ → ℕ → List History → Type 0
+HistoriesInRange n k hs = (i : ℕ) → i < n → HistoryInRange k (getD hs i none)
 
 -- an accepted file of n units
 pub record Units (file : List ℕ) (n : ℕ) : Type 0 where
@@ -126,7 +126,7 @@ pub record SlotAsks (file demands : List ℕ) (k n room : ℕ) (before : Columns
   pub day : k < 96
   pub lent : 18 * k + 18 ≤ room
   pub sound : Units file n
-  pub kept : (i : ℕ) → i < n → Modest k (recordAt before i)
+  pub kept : (i : ℕ) → i < n → HistoryInRange k (recordAt before i)
 
 -- what slot k asks, with these histories before it
 pub record TurnAsks (file demands : List ℕ) (k n room : ℕ) (histories : List History) : Type 0 where
@@ -137,7 +137,7 @@ pub record TurnAsks (file demands : List ℕ) (k n room : ℕ) (histories : List
   pub day : k < 96
   pub lent : 18 * k + 18 ≤ room
   pub sound : Units file n
-  pub kept : Kept n k histories
+  pub kept : HistoriesInRange n k histories
 
 -- what all slots ask, of so many of them, so many sets, and so much room
 pub record Ready (file demands : List ℕ) (m n room : ℕ) (histories : List History) : Type 0 where
@@ -148,7 +148,7 @@ pub record Ready (file demands : List ℕ) (m n room : ℕ) (histories : List Hi
   pub day : m ≤ 96
   pub lent : 18 * m ≤ room
   pub sound : 0 < m → Units file n
-  pub kept : Kept n 0 histories
+  pub kept : HistoriesInRange n 0 histories
 
 -- ---- what a call opens with, and how it ends
 
