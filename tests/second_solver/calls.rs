@@ -1,5 +1,7 @@
 //! The calls of the specification, with their inputs and the size of the buffer that is lent: seven that the runner makes too,
-//! and the day, which it leaves out.
+//! the operations on its run, and the day, which it leaves out.
+
+use crate::solver::{self, Asked, Refused, Run, State};
 
 #[derive(Clone, Debug)]
 pub enum Call {
@@ -30,6 +32,49 @@ impl Call {
 
     pub fn name(&self) -> &'static str {
         NAMES[self.index()]
+    }
+}
+
+/// An operation on a run: numbers put into it, or one of the three calls.
+#[derive(Clone, Debug)]
+pub enum Operation {
+    Put(Run),
+    Start(Vec<u8>),
+    Advance(Vec<u8>),
+    Ask,
+}
+
+/// What an operation answers.
+#[derive(Clone, Debug, PartialEq, Eq)]
+pub enum Answer {
+    Put,
+    Started(Result<(), Refused>),
+    Advanced(Result<State, Refused>),
+    Asked(Asked),
+}
+
+impl Operation {
+    /// The answer of the second solver, and the run as it leaves it.
+    pub fn perform(&self, run: &mut Run) -> Answer {
+        match self {
+            Operation::Put(numbers) => {
+                *run = *numbers;
+                Answer::Put
+            }
+            Operation::Start(file) => Answer::Started(solver::start(run, file)),
+            Operation::Advance(file) => Answer::Advanced(solver::advance(run, file)),
+            Operation::Ask => Answer::Asked(solver::ask(run)),
+        }
+    }
+}
+
+impl Answer {
+    pub fn refused(&self) -> Option<Refused> {
+        match self {
+            Answer::Started(answer) => answer.err(),
+            Answer::Advanced(answer) => answer.err(),
+            Answer::Put | Answer::Asked(_) => None,
+        }
     }
 }
 

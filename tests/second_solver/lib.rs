@@ -12,9 +12,11 @@ pub mod lowered;
 pub mod outputs;
 pub mod promise;
 pub mod random;
+pub mod runs;
 pub mod slots;
 pub mod slotted;
 pub mod solver;
+pub mod stepped;
 pub mod tally;
 pub mod vectors;
 

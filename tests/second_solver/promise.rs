@@ -1,8 +1,10 @@
 //! Demand 3, and what is promised of judgements and of floors for other demands, by brute force: all allocations of a small case, and
-//! all multipliers from 0 to 65,536. And of two demands of one case, that the greater is never cheaper.
+//! all multipliers from 0 to 65,536. Of two demands of one case, that the greater is never cheaper. And what is promised of a run at
+//! every moment since its start.
 
+use crate::calls::{Answer, Operation};
 use crate::hex;
-use crate::solver::{self, Allocation, Case, Judged, Offer, Refused, Reply};
+use crate::solver::{self, Allocation, Case, Judged, Offer, Problem, Refused, Reply, Run, Search, State, ZEROS};
 
 /// Whether a case is small enough: how many allocations it has, and how many permitted outputs for each multiplier to try.
 pub fn is_small(case: &Case, most_allocations: usize, most_offers: usize) -> bool {
@@ -413,4 +415,141 @@ impl Loads {
     pub fn assert_complete(&self) {
         assert!(self.dearer > 0 && self.greater_floor_alone > 0 && self.higher_refused > 0, "a kind of pair is missing: {}", self.line());
     }
+}
+
+// ---- runs
+
+/// What is known of a run since its last accepted start, if each advance had that file: the case, its search and reply, and how many
+/// advances there were. Of a small case the least cost of the allocations that cover, too.
+struct Followed {
+    file: Vec<u8>,
+    problem: Problem,
+    search: Search,
+    reply: Reply,
+    cheapest: Option<i128>,
+    advances: usize,
+}
+
+impl Followed {
+    fn of(file: &[u8], is_small: bool) -> Followed {
+        let case = solver::decode(file).expect("a started file");
+        let problem = solver::problem(&case).expect("a started case");
+        let mut bytes = [0; 92];
+        let length = solver::dispatch(file, &mut bytes).expect("a reply to a started file");
+        let cheapest = if is_small { cheapest_covering(&problem.offers, problem.demand_net) } else { None };
+        let (search, reply) = (solver::search(&problem), solver::decode_reply(&bytes[..length]));
+        Followed { file: file.to_vec(), problem, search, reply, cheapest, advances: 0 }
+    }
+
+    /// The best and the greatest floor of the evaluations that are made, from the whole search.
+    fn so_far(&self) -> (&[Offer], i128) {
+        let visits = &self.search.visits[..self.evaluations()];
+        let covering = visits.iter().rev().find(|(_, evaluation)| self.problem.surplus(&evaluation.lowered) >= 0);
+        let best = covering.map_or(&self.problem.greatest, |(_, evaluation)| &evaluation.lowered);
+        (best, visits.iter().map(|(_, evaluation)| solver::floor(evaluation.dual)).fold(0, i128::max))
+    }
+
+    fn evaluations(&self) -> usize {
+        self.advances.min(self.search.visits.len())
+    }
+
+    /// The first sentence that a run breaks.
+    fn broken_sentence(&self, run: &Run) -> Option<&'static str> {
+        let asked = solver::ask(run);
+        let outputs = &asked.outputs[..self.problem.offers.len()];
+        let allocation = match permitted_allocation(&self.problem.offers, outputs) {
+            Some(allocation) => allocation,
+            None => return Some("the outputs are permitted"),
+        };
+        let (best, floor) = self.so_far();
+        let is_finished = asked.state == State::Finished;
+        let told = (asked.evaluations, asked.cost, asked.gap, asked.surplus, outputs);
+        let reply = &self.reply;
+        let sentences = [
+            (asked.count as usize == outputs.len(), "the count is the number of units"),
+            (is_finished == (self.advances as i128 >= reply.evaluations), "finished exactly after dispatch's evaluations"),
+            (asked.evaluations == self.evaluations() as i128, "one evaluation to an advance"),
+            (allocation == best && i128::from(run[6]) == floor, "a run is the search so far"),
+            (asked.surplus >= 0 && solver::total_net(&allocation) - self.problem.demand_net == asked.surplus, "the outputs cover"),
+            (solver::total_cost(&allocation) == asked.cost, "the cost is exact"),
+            (asked.cost - asked.gap == floor, "cost - gap is the greatest floor so far"),
+            (self.cheapest.map_or(true, |cheapest| cheapest >= asked.cost - asked.gap), "nobody spends less than cost - gap"),
+            (
+                !is_finished || told == (reply.evaluations, reply.cost, reply.gap, reply.surplus, &reply.outputs[..]),
+                "a finished run is dispatch's reply",
+            ),
+        ];
+        sentences.iter().find(|(holds, _)| !holds).map(|(_, sentence)| *sentence)
+    }
+}
+
+/// Follows one run through its operations.
+#[derive(Default)]
+pub struct Runs {
+    followed: Option<Followed>,
+    /// How many moments were checked, how many of them by brute force, and how many runs came to their end.
+    pub moments: u64,
+    pub by_brute_force: u64,
+    pub ends: u64,
+}
+
+impl Runs {
+    /// Checks every sentence for an operation, its answer and the run before and after it. An error has the sentence that fails, and
+    /// the operation.
+    pub fn check(&mut self, operation: &Operation, before: &Run, answer: &Answer, after: &Run, is_small: bool) -> Result<(), String> {
+        let state = solver::ask(before).state;
+        self.follow(operation, state, answer, is_small);
+        let change = broken_change(operation, state, before, answer, after);
+        let broken = change.or_else(|| self.broken_moment(operation, before, after));
+        broken.map_or(Ok(()), |sentence| {
+            Err(format!("not so: {}\n{:?}\nof {:?}\nanswer {:?}\nthen {:?}", sentence, operation, before, answer, after))
+        })
+    }
+
+    fn follow(&mut self, operation: &Operation, state: State, answer: &Answer, is_small: bool) {
+        match (operation, answer, &mut self.followed) {
+            (Operation::Put(_), _, followed) => *followed = None,
+            (Operation::Start(file), Answer::Started(Ok(())), followed) => *followed = Some(Followed::of(file, is_small)),
+            (Operation::Advance(file), Answer::Advanced(Ok(_)), Some(followed)) if *file == followed.file => {
+                followed.advances += 1;
+                self.ends += u64::from(followed.advances == followed.search.visits.len());
+            }
+            (Operation::Advance(_), Answer::Advanced(Ok(_)), followed) if state == State::Unfinished => *followed = None,
+            _ => {}
+        }
+    }
+
+    fn broken_moment(&mut self, operation: &Operation, before: &Run, after: &Run) -> Option<&'static str> {
+        let followed = self.followed.as_ref()?;
+        self.moments += 1;
+        self.by_brute_force += u64::from(followed.cheapest.is_some());
+        let is_start = matches!(operation, Operation::Start(_)) && followed.advances == 0;
+        if !is_start && (after[4] > before[4] || after[6] < before[6]) {
+            return Some("between two starts cost never rises and floor never falls");
+        }
+        followed.broken_sentence(after)
+    }
+}
+
+/// What an operation may not do to any run.
+fn broken_change(operation: &Operation, state: State, before: &Run, answer: &Answer, after: &Run) -> Option<&'static str> {
+    let is_advance = matches!(operation, Operation::Advance(_));
+    let not_started = match answer {
+        Answer::Advanced(answer) => *answer == Ok(State::NotStarted),
+        Answer::Asked(asked) => asked.state == State::NotStarted,
+        _ => false,
+    };
+    let may_change = match answer {
+        Answer::Put | Answer::Started(Ok(())) => true,
+        Answer::Advanced(Ok(_)) => state == State::Unfinished,
+        _ => false,
+    };
+    let asks_or_advances = is_advance || matches!(operation, Operation::Ask);
+    let sentences = [
+        (may_change || before == after, "asks, refusals and advances of a run that is not started or finished change nothing"),
+        (!asks_or_advances || *before != ZEROS || not_started, "zeros are not started"),
+        (!not_started || state == State::NotStarted, "advance and ask agree on what is not started"),
+        (!is_advance || state == State::NotStarted || !not_started, "a started run is advanced"),
+    ];
+    sentences.iter().find(|(holds, _)| !holds).map(|(_, sentence)| *sentence)
 }

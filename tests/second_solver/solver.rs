@@ -663,6 +663,178 @@ fn encode_slot(answer: &Result<Reply, Refused>) -> Vec<u8> {
     bytes
 }
 
+// ---- a search that is looked at while it runs
+
+/// A run: started, finished, evaluations, low, cost, surplus, floor, count, and 32 outputs.
+pub type Run = [u64; 40];
+
+/// A run that is not started.
+pub const ZEROS: Run = [0; 40];
+
+/// What cost, surplus and floor of a started run are at most.
+pub const GREATEST_IN_RUN: i128 = 35_200_000_000_000;
+
+/// The numbers of a started run, by their names.
+#[derive(Clone, Debug, PartialEq, Eq)]
+pub struct Progress {
+    pub finished: bool,
+    pub evaluations: i128,
+    pub low: i128,
+    pub cost: i128,
+    pub surplus: i128,
+    pub floor: i128,
+    pub count: i128,
+    /// 32 of them, zeros behind those of the units.
+    pub outputs: Vec<i128>,
+}
+
+impl Progress {
+    /// None where the numbers do not fit together (rule 22.4).
+    pub fn of(run: &Run) -> Option<Progress> {
+        let numbers = run.map(i128::from);
+        let progress = Progress {
+            finished: run[1] == 1,
+            evaluations: numbers[2],
+            low: numbers[3],
+            cost: numbers[4],
+            surplus: numbers[5],
+            floor: numbers[6],
+            count: numbers[7],
+            outputs: numbers[8..].to_vec(),
+        };
+        Some(progress).filter(|progress| run[0] == 1 && run[1] <= 1 && progress.fits())
+    }
+
+    fn fits(&self) -> bool {
+        let amounts = [self.cost, self.surplus, self.floor];
+        let is_a_stage = if self.finished { self.evaluations <= 18 } else { self.evaluations <= 17 && self.low_fits() };
+        is_a_stage
+            && amounts.iter().all(|amount| *amount <= GREATEST_IN_RUN)
+            && (1..=32).contains(&self.count)
+            && self.outputs.iter().all(|output| *output <= 10_000)
+    }
+
+    fn low_fits(&self) -> bool {
+        self.low == 0 || self.low + (1 << (18 - self.evaluations)) <= GREATEST_MULTIPLIER
+    }
+
+    fn numbers(&self) -> Run {
+        let mut numbers = vec![1, i128::from(self.finished), self.evaluations, self.low];
+        numbers.extend([self.cost, self.surplus, self.floor, self.count]);
+        numbers.extend(&self.outputs);
+        let numbers: Vec<u64> = numbers.into_iter().map(|number| u64::try_from(number).expect("a number of a run")).collect();
+        numbers.try_into().expect("40 numbers")
+    }
+
+    /// What is evaluated next (rule 22.3).
+    pub fn next(&self) -> i128 {
+        match self.evaluations {
+            0 => 0,
+            1 => GREATEST_MULTIPLIER,
+            made => self.low + (1 << (17 - made)),
+        }
+    }
+
+    fn state(&self) -> State {
+        if self.finished {
+            State::Finished
+        } else {
+            State::Unfinished
+        }
+    }
+
+    /// Takes an allocation as the best.
+    fn take(&mut self, problem: &Problem, allocation: &[Offer]) {
+        self.cost = total_cost(allocation);
+        self.surplus = problem.surplus(allocation);
+        self.outputs = allocation.iter().map(|offer| offer.output).collect();
+        self.outputs.resize(32, 0);
+    }
+
+    /// One evaluation more, of a run that is not finished.
+    fn evaluate(&mut self, problem: &Problem) {
+        let multiplier = self.next();
+        let evaluation = problem.evaluate(multiplier);
+        let surplus = problem.surplus(&evaluation.lowered);
+        if surplus >= 0 {
+            self.take(problem, &evaluation.lowered);
+        }
+        self.count = problem.offers.len() as i128;
+        self.floor = self.floor.max(floor(evaluation.dual));
+        self.evaluations += 1;
+        self.finished = match self.evaluations {
+            1 => surplus >= 0,
+            2 => surplus <= 0,
+            made => surplus == 0 || made == 18,
+        };
+        if self.finished {
+            self.low = 0;
+        } else if self.evaluations > 2 && surplus < 0 {
+            self.low = multiplier;
+        }
+    }
+}
+
+/// Where a run stands.
+#[derive(Clone, Copy, Debug, PartialEq, Eq)]
+pub enum State {
+    NotStarted,
+    Unfinished,
+    Finished,
+}
+
+/// What is told of a run: zeros of one that is not started.
+#[derive(Clone, Debug, PartialEq, Eq)]
+pub struct Asked {
+    pub state: State,
+    pub count: i128,
+    pub evaluations: i128,
+    pub cost: i128,
+    pub gap: i128,
+    pub surplus: i128,
+    /// 32 of them.
+    pub outputs: Vec<i128>,
+}
+
+/// Starts a run of a file: its best are the greatest outputs.
+pub fn start(run: &mut Run, file: &[u8]) -> Result<(), Refused> {
+    let problem = problem(&decode(file)?)?;
+    let count = problem.offers.len() as i128;
+    let (finished, evaluations, low, floor) = (false, 0, 0, 0);
+    let mut progress = Progress { finished, evaluations, low, cost: 0, surplus: 0, floor, count, outputs: vec![] };
+    progress.take(&problem, &problem.greatest);
+    *run = progress.numbers();
+    Ok(())
+}
+
+/// Makes the next evaluation of a run, and tells where it then stands.
+pub fn advance(run: &mut Run, file: &[u8]) -> Result<State, Refused> {
+    let mut progress = match Progress::of(run) {
+        Some(progress) => progress,
+        None => return Ok(State::NotStarted),
+    };
+    let problem = problem(&decode(file)?)?;
+    if !progress.finished {
+        progress.evaluate(&problem);
+        *run = progress.numbers();
+    }
+    Ok(progress.state())
+}
+
+/// Tells what a run has so far.
+pub fn ask(run: &Run) -> Asked {
+    let nothing = Asked { state: State::NotStarted, count: 0, evaluations: 0, cost: 0, gap: 0, surplus: 0, outputs: vec![0; 32] };
+    Progress::of(run).map_or(nothing, |progress| Asked {
+        state: progress.state(),
+        count: progress.count,
+        evaluations: progress.evaluations,
+        cost: progress.cost,
+        gap: (progress.cost - progress.floor).max(0),
+        surplus: progress.surplus,
+        outputs: progress.outputs,
+    })
+}
+
 // ---- the Modbus view
 
 fn is_reply(bytes: &[u8]) -> bool {

@@ -30,6 +30,9 @@ pub const POSSIBLE_IN_C: [&[usize]; CALLS] = [
 /// The numbers that the day can give in C (rules 21.1 and 21.9).
 pub const POSSIBLE_OF_DAYS: &[usize] = &[1, 2, 3, 4, 5, 6, 7, 8, 9, 10, 18, 22, 23];
 
+/// The numbers that a start or an advance of a run can give (rules 22.5 and 22.6).
+pub const POSSIBLE_OF_RUNS: &[usize] = &[2, 3, 4, 5, 6, 7, 8, 9, 10, 11, 18];
+
 /// Counts of one call by number; number 0 stands for an answer.
 #[derive(Default)]
 pub struct Numbers([u64; 24]);

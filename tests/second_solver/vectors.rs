@@ -2,7 +2,7 @@
 
 use crate::calls::Day;
 use crate::hex;
-use crate::solver::{self, Case, History, Judged, Priced, Refused, Reply, Unit};
+use crate::solver::{self, Case, History, Judged, Priced, Refused, Reply, Run, State, Unit};
 
 /// The file of case U5 (rule 15.5).
 const U5: &str = "0001000100000005000c001e000000000000271003e800000002000a000000000000000000010004\
@@ -33,7 +33,7 @@ pub fn u() -> Unit {
     }
 }
 
-fn u5() -> Case {
+pub fn u5() -> Case {
     Case { edition: 1, demand: 5, units: vec![u()] }
 }
 
@@ -928,6 +928,172 @@ fn bytes_of_slot(slot: Option<(u64, u64)>) -> Vec<u8> {
     [&status.to_be_bytes()[..], &cost.to_be_bytes(), &gap.to_be_bytes()].concat()
 }
 
+/// A run of a case from its start to its end: outputs, cost and gap after so many advances, and until more is stated.
+pub struct Stepping {
+    pub case: Case,
+    moments: Vec<(i128, Vec<i128>, i128, i128)>,
+    /// The advance that finishes it.
+    last: i128,
+}
+
+fn stepping(demand: i128, units: &[Unit], last: i128, moments: &[(i128, &[i128], i128, i128)]) -> Stepping {
+    let edition = if units.iter().any(|unit| unit.b1 != 0) { 2 } else { 1 };
+    let moments = moments.iter().map(|(after, outputs, cost, gap)| (*after, outputs.to_vec(), *cost, *gap)).collect();
+    Stepping { case: Case { edition, demand, units: units.to_vec() }, moments, last }
+}
+
+/// Runs, and what is told of them after each advance.
+pub fn steppings() -> Vec<Stepping> {
+    let dear = [with_c0(500_000_000), with_c0(1_000_000_000)];
+    vec![
+        // a floor before the first evaluation; best and floor that change at different advances
+        stepping(
+            5,
+            &[u()],
+            18,
+            &[
+                (0, &[10], 200_000, 200_000),
+                (13, &[10], 200_000, 160_000),
+                (14, &[10], 200_000, 129_000),
+                (15, &[7], 119_000, 48_000),
+                (16, &[7], 119_000, 43_000),
+                (18, &[7], 119_000, 42_000),
+            ],
+        ),
+        // the floor of the last evaluation alone
+        stepping(
+            1,
+            &[u()],
+            18,
+            &[(0, &[10], 200_000, 200_000), (14, &[3], 39_000, 32_000), (15, &[3], 39_000, 31_000), (16, &[2], 24_000, 12_000)],
+        ),
+        // no end at 0
+        stepping(0, &[u()], 1, &[(0, &[10], 200_000, 200_000), (1, &[0], 0, 0)]),
+        stepping(0, &[u_must_run()], 1, &[(0, &[10], 200_000, 200_000), (1, &[2], 24_000, 0)]),
+        // none at 65,536, where it does not cover or just covers; none at a middle that just covers
+        stepping(15, &dear, 2, &[(0, &[10, 10], 1_500_400_000, 1_500_400_000), (2, &[10, 10], 1_500_400_000, 672_520_000)]),
+        stepping(10, &[u()], 2, &[(0, &[10], 200_000, 200_000), (2, &[10], 200_000, 0)]),
+        stepping(
+            10,
+            &[with_c0(300_000_000), with_c0(500_000_000)],
+            3,
+            &[(0, &[10, 10], 800_400_000, 800_400_000), (2, &[10, 10], 800_400_000, 655_360_000), (3, &[10, 0], 300_200_000, 0)],
+        ),
+        stepping(2, &[u()], 16, &[(0, &[10], 200_000, 200_000), (14, &[3], 39_000, 16_000), (16, &[2], 24_000, 0)]),
+        // outputs that tie and are not lowered
+        stepping(
+            5,
+            &[u(), u()],
+            18,
+            &[(0, &[10, 10], 400_000, 400_000), (14, &[3, 3], 78_000, 16_000), (18, &[2, 3], 63_000, 0)],
+        ),
+        // losses: a floor rounded up, and edition 2
+        stepping(
+            5,
+            &[Unit { b: 1, ..u() }],
+            18,
+            &[
+                (0, &[10], 200_000, 200_000),
+                (13, &[10], 200_000, 159_999),
+                (14, &[10], 200_000, 128_999),
+                (15, &[7], 119_000, 47_999),
+                (16, &[7], 119_000, 42_999),
+                (18, &[7], 119_000, 41_999),
+            ],
+        ),
+        stepping(
+            5,
+            &[with_b1(-10_000_000)],
+            18,
+            &[
+                (0, &[10], 200_000, 200_000),
+                (13, &[10], 200_000, 192_000),
+                (14, &[10], 200_000, 134_400),
+                (15, &[8], 144_000, 78_400),
+                (16, &[7], 119_000, 53_400),
+                (17, &[7], 119_000, 52_200),
+                (18, &[7], 119_000, 51_600),
+            ],
+        ),
+    ]
+}
+
+impl Stepping {
+    fn check(&self) {
+        let file = solver::encode(&self.case);
+        let mut run = solver::ZEROS;
+        assert_eq!(solver::start(&mut run, &file), Ok(()), "a start of {:?}", self.case);
+        for advances in 0..=20 {
+            let (_, outputs, cost, gap) = self.moments.iter().rev().find(|moment| moment.0 <= advances).expect("a moment");
+            let asked = solver::ask(&run);
+            let told = (&asked.outputs[..asked.count as usize], asked.cost, asked.gap, asked.evaluations);
+            assert_eq!(told, (&outputs[..], *cost, *gap, advances.min(self.last)), "{:?} after {} advances", self.case, advances);
+            assert_eq!(asked.state == State::Finished, advances >= self.last, "{:?} after {} advances", self.case, advances);
+            let after = if advances + 1 < self.last { State::Unfinished } else { State::Finished };
+            assert_eq!(solver::advance(&mut run, &file), Ok(after), "{:?} advanced after {} advances", self.case, advances);
+        }
+    }
+}
+
+/// The run of U5 after its start with some numbers changed: the gap that is told, or none where it is not started.
+pub fn changed_runs() -> Vec<(Run, Option<i128>)> {
+    let changed = |changes: &[(usize, u64)], gap| {
+        let mut run = solver::ZEROS;
+        solver::start(&mut run, &solver::encode(&u5())).expect("a start of U5");
+        for (place, number) in changes {
+            run[*place] = *number;
+        }
+        (run, gap)
+    };
+    vec![
+        changed(&[], Some(200_000)),
+        changed(&[(0, 0)], None),
+        changed(&[(0, 2)], None),
+        changed(&[(1, 1)], Some(200_000)),
+        changed(&[(1, 2)], None),
+        changed(&[(2, 17)], Some(200_000)),
+        changed(&[(2, 18)], None),
+        changed(&[(1, 1), (2, 18), (3, 5)], Some(200_000)),
+        changed(&[(1, 1), (2, 19)], None),
+        changed(&[(2, 1), (3, 5)], None),
+        changed(&[(2, 2), (3, 32_768)], None),
+        changed(&[(2, 3), (3, 32_768)], Some(200_000)),
+        changed(&[(2, 3), (3, 32_769)], None),
+        changed(&[(2, 17), (3, 65_534)], Some(200_000)),
+        changed(&[(2, 17), (3, 65_536)], None),
+        changed(&[(2, 17), (3, u64::MAX)], None),
+        changed(&[(4, 35_200_000_000_000)], Some(35_200_000_000_000)),
+        changed(&[(4, 35_200_000_000_001)], None),
+        changed(&[(5, 35_200_000_000_000)], Some(200_000)),
+        changed(&[(5, 35_200_000_000_001)], None),
+        changed(&[(6, 199_999)], Some(1)),
+        changed(&[(6, 300_000)], Some(0)),
+        changed(&[(6, 35_200_000_000_000)], Some(0)),
+        changed(&[(6, 35_200_000_000_001)], None),
+        changed(&[(7, 0)], None),
+        changed(&[(7, 32)], Some(200_000)),
+        changed(&[(7, 33)], None),
+        changed(&[(8, 10_000)], Some(200_000)),
+        changed(&[(8, 10_001)], None),
+        changed(&[(39, 10_000)], Some(200_000)),
+        changed(&[(39, 10_001)], None),
+    ]
+}
+
+fn check_steppings() -> usize {
+    let (steppings, changed_runs) = (steppings(), changed_runs());
+    for stepping in &steppings {
+        stepping.check();
+    }
+    for (run, gap) in &changed_runs {
+        let asked = solver::ask(run);
+        assert_eq!(Some(asked.gap).filter(|_| asked.state != State::NotStarted), *gap, "{:?}", run);
+        let answer = solver::advance(&mut run.clone(), &solver::encode(&u5()));
+        assert_eq!(answer == Ok(State::NotStarted), gap.is_none(), "{:?} advanced", run);
+    }
+    steppings.len() + changed_runs.len()
+}
+
 /// Asserts every number that is stated; tells how many vectors there are.
 pub fn check() -> usize {
     let u5 = solver::encode(&u5());
@@ -941,7 +1107,7 @@ pub fn check() -> usize {
     for vector in &vectors {
         check_vector(vector);
     }
-    let of_calls = check_edition_2() + check_judgements() + check_floorings() + check_schedules();
+    let of_calls = check_edition_2() + check_judgements() + check_floorings() + check_schedules() + check_steppings();
     vectors.len() + PRICINGS.len() + VIEWS.len() + of_calls
 }
 

@@ -2,13 +2,14 @@
 //! call was answered, and refused by each number, and how often each branch was reached.
 
 use second_solver::branches::Reached;
-use second_solver::calls::{bytes_of, Call};
+use second_solver::calls::{bytes_of, Answer, Call, Operation};
 use second_solver::generate::{accepted_kinds, kinds};
-use second_solver::promise::{self, Floors, Judgements};
+use second_solver::promise::{self, Floors, Judgements, Runs};
 use second_solver::random::Random;
-use second_solver::solver::{self, Judged, Refused};
-use second_solver::tally::{Tally, POSSIBLE};
-use second_solver::{hex, vectors};
+use second_solver::solver::{self, Asked, Judged, Refused, Run, State, ZEROS};
+use second_solver::stepped::Stepped;
+use second_solver::tally::{Numbers, Tally, POSSIBLE, POSSIBLE_OF_RUNS};
+use second_solver::{hex, runs, vectors};
 
 const SEED: u64 = 1;
 const BUFFER_BYTES: usize = 1_600;
@@ -30,6 +31,24 @@ struct Files {
     promises: usize,
     judgements: Judgements,
     floors: Floors,
+    operations: Operations,
+}
+
+/// The runner's one run, and what was counted of the operations on it.
+struct Operations {
+    run: Run,
+    starts: Numbers,
+    advances: Numbers,
+    asks: u64,
+    stepped: Stepped,
+    promises: Runs,
+}
+
+impl Default for Operations {
+    fn default() -> Operations {
+        let (starts, advances, asks) = (Numbers::default(), Numbers::default(), 0);
+        Operations { run: ZEROS, starts, advances, asks, stepped: Stepped::default(), promises: Runs::default() }
+    }
 }
 
 fn main() {
@@ -42,6 +61,7 @@ fn main() {
     let files = make_files();
     files.tally.assert_complete(POSSIBLE);
     files.reached.assert_complete();
+    files.operations.assert_complete();
     assert_every_exception(&files.lines);
     std::fs::write(input_path, input(&files.records)).expect(input_path);
     std::fs::write(output_path, output(&files.lines)).expect(output_path);
@@ -50,7 +70,9 @@ fn main() {
     let by_brute_force =
         format!("{} dispatches, {} judgements and {} floors checked by brute force", dispatches, judgements, floors);
     println!("{} calls, {}", files.tally.total(), by_brute_force);
-    for line in files.kind_lines().iter().chain(&files.tally.lines()).chain(&files.reached.lines()) {
+    println!("{}", files.operations.line());
+    let operations = files.operations.lines();
+    for line in files.kind_lines().iter().chain(&files.tally.lines()).chain(&files.reached.lines()).chain(&operations) {
         println!("{}", line);
     }
 }
@@ -68,6 +90,14 @@ fn make_files() -> Files {
         let dispatched = files.lines[first..].iter().any(|line| line.starts_with("dispatch ") && !line.contains("refused"));
         assert!(dispatched || index >= accepted_kinds().len(), "no case of {} is dispatched", kind.name);
         files.kinds.push((kind.name, calls.len()));
+    }
+    for (name, times, make) in runs::KINDS {
+        let operations: Vec<Operation> = (0..times).flat_map(|_| make(&mut random)).collect();
+        assert!(!operations.is_empty(), "no operation of {}", name);
+        for operation in &operations {
+            files.add_operation(operation);
+        }
+        files.kinds.push((name, operations.len()));
     }
     files
 }
@@ -142,6 +172,17 @@ impl Files {
         self.reached.count(call, refused);
     }
 
+    fn add_operation(&mut self, operation: &Operation) {
+        self.records.push(match operation {
+            Operation::Put(numbers) => record(8, 0, 0, &bytes_of_run(numbers)),
+            Operation::Start(file) => record(9, 0, 0, file),
+            Operation::Advance(file) => record(10, 0, 0, file),
+            Operation::Ask => record(11, 0, 0, &[]),
+        });
+        let answer = self.operations.perform(operation);
+        self.lines.push(format!("{} {}", words_of(&answer), decimals(&self.operations.run)));
+    }
+
     /// One line to a kind, with the count of its calls.
     fn kind_lines(&self) -> Vec<String> {
         self.kinds.iter().map(|(name, count)| format!("kind {} {}", name, count)).collect()
@@ -175,6 +216,52 @@ impl Files {
             }
         }
     }
+}
+
+impl Operations {
+    /// Performs an operation, counts it and checks what is promised.
+    fn perform(&mut self, operation: &Operation) -> Answer {
+        let before = self.run;
+        let answer = operation.perform(&mut self.run);
+        let is_small = matches!(operation, Operation::Start(file) if is_small(file));
+        if let Err(message) = self.promises.check(operation, &before, &answer, &self.run, is_small) {
+            panic!("{}", message);
+        }
+        self.stepped.count(operation, &before, &answer, &self.run);
+        match operation {
+            Operation::Start(_) => self.starts.count(answer.refused()),
+            Operation::Advance(_) => self.advances.count(answer.refused()),
+            Operation::Ask => self.asks += 1,
+            Operation::Put(_) => {}
+        }
+        answer
+    }
+
+    fn line(&self) -> String {
+        let promises = &self.promises;
+        format!(
+            "{} moments of runs checked, {} of them by brute force; {} runs stepped to their end",
+            promises.moments, promises.by_brute_force, promises.ends
+        )
+    }
+
+    fn lines(&self) -> Vec<String> {
+        let mut lines = [self.starts.lines("start"), self.advances.lines("advance")].concat();
+        lines.push(format!("ask answered {}", self.asks));
+        lines.extend(self.stepped.lines());
+        lines
+    }
+
+    fn assert_complete(&self) {
+        self.starts.assert_complete("start", POSSIBLE_OF_RUNS);
+        self.advances.assert_complete("advance", POSSIBLE_OF_RUNS);
+        self.stepped.assert_complete();
+    }
+}
+
+/// The numbers of a run, 8 bytes to a number.
+fn bytes_of_run(run: &Run) -> Vec<u8> {
+    run.iter().flat_map(|number| number.to_be_bytes()).collect()
 }
 
 /// Whether a file is accepted and small enough for brute force.
@@ -253,6 +340,34 @@ fn floors(file: &[u8], demands: &[u32], room: usize) -> (String, Option<Refused>
         }
         Err(refused) => (format!("floors refused {} {}", refused.0, kept(&buffer, FILL_FLOOR)), Some(refused)),
     }
+}
+
+/// What an operation on the run answers, without the run's numbers.
+fn words_of(answer: &Answer) -> String {
+    match answer {
+        Answer::Put => "put".to_string(),
+        Answer::Started(Ok(())) => "start begun".to_string(),
+        Answer::Started(Err(refused)) => format!("start refused {}", refused.0),
+        Answer::Advanced(Ok(state)) => format!("advance {}", word_of(*state)),
+        Answer::Advanced(Err(refused)) => format!("advance refused {}", refused.0),
+        Answer::Asked(Asked { state, count, evaluations, cost, gap, surplus, outputs }) => {
+            let amounts = decimals(&[*count, *evaluations, *cost, *gap, *surplus]);
+            format!("ask {} {} {}", word_of(*state), amounts, decimals(outputs))
+        }
+    }
+}
+
+fn word_of(state: State) -> &'static str {
+    match state {
+        State::NotStarted => "not started",
+        State::Unfinished => "unfinished",
+        State::Finished => "finished",
+    }
+}
+
+/// Numbers with a space between two.
+fn decimals<T: ToString>(numbers: &[T]) -> String {
+    numbers.iter().map(T::to_string).collect::<Vec<String>>().join(" ")
 }
 
 fn kept<T: PartialEq>(buffer: &[T], fill: T) -> &'static str {

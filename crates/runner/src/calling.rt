@@ -5,10 +5,12 @@ use crate::printing::decimals;
 use crate::printing::hexadecimal;
 use crate::printing::least;
 use crate::printing::number;
+use crate::printing::refusal;
 use crate::printing::rest;
 use crate::printing::signed;
 use crate::printing::signed_decimals;
 use crate::printing::word;
+use crate::running;
 use filled::bytes_kept;
 use filled::fill_bytes;
 use filled::fill_integers;
@@ -24,13 +26,9 @@ use rules::Refusal;
 use rules::Unpacked;
 use sensitivity::Floored;
 
-fn print_refusal(r: Refusal) {
-    number(b"refused ", refusal_number::number(r) as u64);
-}
-
 // The refusal of a call that writes to a buffer, and whether the buffer kept its contents.
 fn print_refused(r: Refusal, kept: bool) {
-    print_refusal(r);
+    refusal(r);
     word(b" ");
     rest(kept);
 }
@@ -68,7 +66,7 @@ fn price(file: &[u8], m: u32) {
     let answer = pricing::price(file, m);
     match answer {
         Priced::Refused(r) => {
-            print_refusal(r);
+            refusal(r);
             word(b"\n");
         }
         Priced::Valued { dual, covers } => print_priced(dual, covers),
@@ -148,7 +146,7 @@ fn judge(given: &[u8], at: usize, numbers: &mut [u32]) {
     let answer = judging::judge(&given[..end], &numbers[..count]);
     match answer {
         Judged::Refused(r) => {
-            print_refusal(r);
+            refusal(r);
             word(b"\n");
         }
         Judged::NotAccepted => word(b"not accepted\n"),
@@ -181,7 +179,7 @@ fn floors(given: &[u8], at: usize, room: usize, numbers: &mut [u32], integers: &
     }
 }
 
-// The call that the record names, on what it gives: its name and its answer.
+// The call that the record names, on what it gives: its name and its answer. Those from 8 on are operations on the run.
 pub fn run(
     call: u16,
     argument: u32,
@@ -190,6 +188,7 @@ pub fn run(
     bytes: &mut [u8],
     numbers: &mut [u32],
     integers: &mut [i64],
+    run: &mut [u64; 40],
 ) {
     if call == 1 {
         word(b"dispatch ");
@@ -213,6 +212,6 @@ pub fn run(
         word(b"floors ");
         floors(given, argument as usize, room, numbers, integers);
     } else {
-        word(b"unknown call\n");
+        running::operate(call, given, run);
     }
 }

@@ -5,6 +5,7 @@ ghost use lib.ListN.{length};
 
 mod calling;
 mod printing;
+mod running;
 
 use libc::STDIN_FILENO;
 use printing::word;
@@ -15,6 +16,7 @@ fn run_record(
     bytes: &mut [u8],
     numbers: &mut [u32],
     integers: &mut [i64],
+    run: &mut [u64; 40],
 ) -> bool {
     let mut head = [0u8; 10];
     let got = io::read_full(STDIN_FILENO, &mut head);
@@ -40,6 +42,7 @@ fn run_record(
         bytes,
         numbers,
         integers,
+        run,
     );
     true
 }
@@ -51,11 +54,12 @@ fn run_records(
     bytes: &mut [u8],
     numbers: &mut [u32],
     integers: &mut [i64],
+    run: &mut [u64; 40],
 ) -> bool {
     let mut left = records;
     while left > 0 {
         left -= 1;
-        if !run_record(given, bytes, numbers, integers) {
+        if !run_record(given, bytes, numbers, integers, run) {
             return false;
         }
     }
@@ -84,7 +88,15 @@ fn main() {
     let mut bytes = io::buffer();
     let mut numbers = number_buffer();
     let mut integers = integer_buffer();
-    if !run_records(records, &mut given, &mut bytes, &mut numbers, &mut integers) {
+    let mut run = [0u64; 40];
+    if !run_records(
+        records,
+        &mut given,
+        &mut bytes,
+        &mut numbers,
+        &mut integers,
+        &mut run,
+    ) {
         word(b"the input is not in the runner's format\n");
     }
 }

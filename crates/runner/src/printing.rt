@@ -1,6 +1,7 @@
 // Words, numbers and whole buffers on standard output.
 ghost use Prim.Native.Nat.{_≤_};
 use libc::STDOUT_FILENO;
+use rules::Refusal;
 
 pub fn word(text: &[u8]) {
     io::write_all(STDOUT_FILENO, text);
@@ -10,6 +11,11 @@ pub fn word(text: &[u8]) {
 pub fn number(text: &[u8], n: u64) {
     word(text);
     io::print_decimal(STDOUT_FILENO, n);
+}
+
+// The number of a refusal.
+pub fn refusal(r: Refusal) {
+    number(b"refused ", refusal_number::number(r) as u64);
 }
 
 // A signed number without its sign.

@@ -1,0 +1,9 @@
+pub mod Widths
+pub mod Copying
+pub mod Eight
+pub mod Fitting
+pub mod Evaluating
+pub mod Endings
+pub mod Progress
+pub mod Course
+pub mod Claims

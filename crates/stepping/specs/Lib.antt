@@ -1,0 +1,4 @@
+pub mod Runs
+pub mod Contracts
+pub mod Cases
+pub mod Claims
