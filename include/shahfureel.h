@@ -5,7 +5,8 @@
  * a case file and outputs of your own, and says whether they will do, what they cost and how far that is from the best at most.
  * Floors takes a case file and other demands, and says for each what it costs at least, from one search. The day takes a case
  * file and the demands of a day's slots, dispatches one after the other, each from the outputs of the one before, and says what
- * each slot costs and how often each unit is started. The view serves a reply to station screens that poll it by Modbus.
+ * each slot costs and how often each unit is started. A run is a dispatch made one evaluation at a time, for screens that show
+ * the best so far. The view serves a reply to station screens that poll it by Modbus.
  *
  * A whole program: one unit that can give 0.2 to 1.0 MW, but nothing strictly between 0.4 and 0.7 MW, is asked for 0.5 MW.
  * It prints "unit 1 gives 0.7 MW" and "cost 119000, nobody does it for less than 77000".
@@ -50,9 +51,10 @@
  *   - it returns, and reads and writes nothing outside the buffers that it is lent;
  *   - a refusal leaves every lent buffer as it was;
  *   - otherwise only the start of an output buffer is written, as far as the call says; the rest is untouched;
- *   - it keeps nothing between calls and allocates nothing. Several threads may call at once, also on the same input, each with
- *     output buffers of its own. The stack that each takes is named below, SHAHFUREEL_STACK_...; in a dynamically
- *     linked program the first call takes up to 3 kB more, when the loader looks up memset (seen, not proved).
+ *   - it keeps nothing between calls but what it writes into a lent run, and allocates nothing. Several threads may call at once,
+ *     also on the same input, each with output buffers and runs of its own. The stack that each takes is named below,
+ *     SHAHFUREEL_STACK_...; in a dynamically linked program a first call takes up to 3 kB more, when the loader looks up memset or,
+ *     for the start of a run, memcpy (seen, not proved).
  * What the caller must ensure (nothing in C can check it):
  *   - each pointer is valid for its length or room, and lists of numbers are aligned for their type;
  *   - LENGTHS AND ROOM OF LISTS COUNT NUMBERS, NOT BYTES: rows_length, rows_room, outputs_length, demands_length, floors_room,
@@ -86,6 +88,9 @@ extern "C" {
 #define SHAHFUREEL_FLOORS_MAX 96u            /* SHAHFUREEL_DEMANDS_MAX by its former name */
 #define SHAHFUREEL_SLOT_BYTES 18u            /* bytes of a day's trace to each slot */
 #define SHAHFUREEL_HISTORIES 32u             /* a list of histories has at least as many records, however few units there are */
+#define SHAHFUREEL_RUN_NUMBERS 41u           /* numbers of a run */
+#define SHAHFUREEL_RUN_BYTES 1608u           /* and its bytes, as many as the longest case file has */
+#define SHAHFUREEL_RUN_ANSWERS 38u           /* and answers when it is asked: a list has as many at least; to advance one will do */
 #define SHAHFUREEL_MULTIPLIER_MAX 65536u     /* hundredths of the currency per MWh */
 #define SHAHFUREEL_DEMAND_MAX 320000u        /* steps of 0.1 MW */
 #define SHAHFUREEL_RAMP_UNLIMITED 10000u     /* as up or down: no ramp limit that way */
@@ -103,11 +108,14 @@ extern "C" {
 #define SHAHFUREEL_STACK_JUDGE 3840u
 #define SHAHFUREEL_STACK_FLOORS 4096u
 #define SHAHFUREEL_STACK_DAY 4608u
+#define SHAHFUREEL_STACK_START 3584u
+#define SHAHFUREEL_STACK_ADVANCE 4096u
+#define SHAHFUREEL_STACK_ASK 512u
 
 /* ---- editions of the case file. Edition 1 is what shahfureel_pack writes and shahfureel_unpack reads. In edition 2 each unit
  * also has b1, a linear loss, from -10,000,000 to 10,000,000: at output p the unit loses b1 * p hundred-millionths of a step
  * more. It is a B0 coefficient times 100,000,000, and may be negative. Edition 1 is read as b1 = 0. shahfureel_dispatch,
- * shahfureel_price, shahfureel_judge, shahfureel_floors and shahfureel_day take both editions.
+ * shahfureel_price, shahfureel_judge, shahfureel_floors, shahfureel_day and runs take both editions.
  *
  * To make a file of edition 2: edition2_pack of examples/edition2.h and edition2.c takes rows as shahfureel_pack does, and a b1
  * for each. By hand, from the bytes that shahfureel_pack wrote: the first field becomes 2; into each body, behind its byte 25,
@@ -179,6 +187,34 @@ struct shahfureel_history {
     uint16_t starts;                         /* how many solved slots it runs in after it stood */
 };
 
+/* ---- a run: a search that the caller advances, and the case that it is of. Zero it before its first start, and let nothing but
+ * the calls write into it. It may be copied by assignment at any moment; the copy is a run of its own. */
+
+struct shahfureel_run {
+    uint64_t numbers[SHAHFUREEL_RUN_NUMBERS]; /* where the search stands: shahfureel_ask tells it */
+    uint8_t held[SHAHFUREEL_RUN_BYTES];      /* its first bytes are the case file of the last accepted start */
+};
+
+/* ---- where a run stands: the first answer of shahfureel_advance and of shahfureel_ask */
+
+enum shahfureel_state {
+    SHAHFUREEL_NOT_STARTED = 0,              /* no accepted start, or not a run's numbers */
+    SHAHFUREEL_UNFINISHED = 1,               /* advance it again */
+    SHAHFUREEL_FINISHED = 2                  /* it has what shahfureel_dispatch replies */
+};
+
+/* ---- the answers of shahfureel_ask: the place of each number. Of a run that is not started all of them are 0. */
+
+enum shahfureel_asked {
+    SHAHFUREEL_ASKED_STATE = 0,              /* one of the three above */
+    SHAHFUREEL_ASKED_COUNT = 1,              /* number of units */
+    SHAHFUREEL_ASKED_EVALUATIONS = 2,        /* prices of energy evaluated so far, at most 18 */
+    SHAHFUREEL_ASKED_COST = 3,               /* what the best outputs so far cost, millionths of the currency per hour */
+    SHAHFUREEL_ASKED_GAP = 4,                /* likewise; nobody covers the demand for less than cost - gap */
+    SHAHFUREEL_ASKED_SURPLUS = 5,            /* net of losses less the demand, hundred-millionths of a step */
+    SHAHFUREEL_ASKED_OUTPUTS = 6             /* unit i, from 0: its output in steps here + i; 32 of them, 0 behind the units */
+};
+
 /* These read a reply that shahfureel_dispatch has written; `unit` counts from 0 and is below shahfureel_reply_count(reply). */
 
 static inline uint64_t shahfureel_big_endian(const uint8_t *at, size_t bytes)
@@ -241,7 +277,9 @@ static inline uint64_t shahfureel_slot_gap(const uint8_t *trace, size_t slot)
  *
  * The first that applies is given: dispatch 1 to 6, unit by unit 7, 8, 18, 9, 10, then 11; pricing 14, 1, then as dispatch from
  * 2 on; judging as dispatch, then 19; floors 1, 20, 21, then as dispatch from 2 on; the day 1, 22, 23, then as dispatch from 2 on
- * but never 11; unpacking 1 to 6, unit by unit 7 to 10; packing 12, 5, row by row 7 to 10, then 13; the view 1, 15, 16, 17.
+ * but never 11; starting a run as dispatch from 2 on, advancing it 1, then 24, asking it 1; unpacking 1 to 6, unit by unit 7 to 10;
+ * packing 12, 5, row by row 7 to 10, then 13; the view 1, 15, 16, 17. (Behind 24 an advance checks the file once more, as dispatch
+ * does from 2 on. Of a run that a start has begun it finds nothing.)
  *
  * 7 to 10 from packing: to find the row, pack the rows one by one, each as a list of its 19 numbers with demand 0. The row that
  * is refused is the one. From a call on a file: a file that packing has written is never refused with 2 to 10 or 18, if it is
@@ -254,10 +292,15 @@ static inline uint64_t shahfureel_slot_gap(const uint8_t *trace, size_t slot)
  * their limits, zones, ramp limits and losses are. As the status of a slot 11 is no refusal of the day: see shahfureel_day.
  *
  * 16: requests of other Modbus functions have other lengths. To answer one, send its function with the top bit set, then 1, as
- * examples/modbus_server.c does. */
+ * examples/modbus_server.c does.
+ *
+ * 24: the file that an advance was handed is not, byte by byte, the one that the run was started with: the case was loaded anew or
+ * changed meanwhile. The run keeps its state. Start it anew with the new file, and it begins again with that; or hand over the old
+ * file, and it goes on. So a panel whose users may load a case starts anew at 24, or keeps a copy of the file while a run lasts. */
 
 enum shahfureel_refusal {
-    SHAHFUREEL_BUFFER_TOO_SHORT = 1,         /* lend a reply of 92 bytes, rows of 608 numbers, answers of 2, for judging 4 */
+    SHAHFUREEL_BUFFER_TOO_SHORT = 1,         /* lend a reply of 92 bytes, rows of 608 numbers, answers of 2, for judging 4,
+                                                for asking a run 38 */
     SHAHFUREEL_FILE_TOO_SHORT = 2,           /* the file has less than its 8 bytes of head: was it read whole? */
     SHAHFUREEL_EDITION_UNKNOWN = 3,          /* the first field is neither 1 nor 2, or for unpacking not 1: bytes swapped? */
     SHAHFUREEL_COUNT_OUT_OF_RANGE = 4,       /* the file names no unit, or more than 32 */
@@ -282,7 +325,8 @@ enum shahfureel_refusal {
     SHAHFUREEL_FLOORS_TOO_SHORT = 21,        /* fewer places for floors than demands: lend one for each */
     SHAHFUREEL_DAY_DEMANDS_INVALID = 22,     /* more than 96 demands for a day: make the slots longer, or plan the rest by a call on
                                                 a file whose previous outputs are those of the histories; or one above 320,000 */
-    SHAHFUREEL_DAY_BUFFERS_TOO_SHORT = 23    /* lend a trace of 18 bytes for each demand and 32 histories, also for fewer units */
+    SHAHFUREEL_DAY_BUFFERS_TOO_SHORT = 23,   /* lend a trace of 18 bytes for each demand and 32 histories, also for fewer units */
+    SHAHFUREEL_CASE_CHANGED = 24             /* a run advanced with a file that is not its own: start anew, or hand over its own */
 };
 
 /* ---- calls. docs/FORMATS.md has the case file byte by byte. */
@@ -386,6 +430,51 @@ uint32_t shahfureel_floors(const uint8_t *file, size_t file_length, const uint32
 uint32_t shahfureel_day(const uint8_t *file, size_t file_length, const uint32_t *demands, size_t demands_length, uint8_t *trace,
                         size_t trace_room, struct shahfureel_history *histories, size_t histories_room, int64_t *answers,
                         size_t answers_room);
+
+/* ---- a dispatch one evaluation at a time. A screen that is not to freeze starts a run, advances it until it is finished, 18 times
+ * at most, and asks in between what is found so far. docs/C.md has a whole program, examples/run.c another. These three take the
+ * two arrays of a run; shahfureel_start, shahfureel_advance and shahfureel_ask below take the struct. */
+
+/* Starts a run of a case file, of either edition, whatever the run was before. Returns 0 and writes the run: no price of energy is
+ * evaluated yet, the best so far are the units' greatest outputs, and the gap is the cost. Or returns a refusal, as
+ * shahfureel_dispatch does for this file, 11 among them; the run then stays as it was, and goes on with its old file.
+ * The file is not the run's own `held`: the two would overlap. */
+uint32_t shahfureel_run_start(uint64_t numbers[SHAHFUREEL_RUN_NUMBERS], uint8_t held[SHAHFUREEL_RUN_BYTES], const uint8_t *file,
+                              size_t file_length);
+
+/* Advances a run by one evaluation. Returns 0 and writes answers[0], where the run then stands; or returns a refusal.
+ *   - The file is the one of the start, handed over again. With any other the call is refused with 24, also where the run is
+ *     finished: see above. (Hand over a file of your own, not the run's `held`: that is never another.)
+ *   - From one advance to the next the cost never rises, and cost - gap never falls, until the run is started anew.
+ *   - A run is finished after as many advances as shahfureel_dispatch makes evaluations. Advancing it once more changes nothing and
+ *     says that it is finished. Of a run that is not started it says so, whatever the file, and changes nothing either.
+ * (answers_room counts numbers: at least 1.) */
+uint32_t shahfureel_run_advance(uint64_t numbers[SHAHFUREEL_RUN_NUMBERS], const uint8_t held[SHAHFUREEL_RUN_BYTES],
+                                const uint8_t *file, size_t file_length, int64_t *answers, size_t answers_room);
+
+/* Tells what a run has so far. Returns 0 and writes 38 answers, or returns 1. It changes nothing: ask as often as you like.
+ *   - At every moment since the start the outputs are permitted and cover the demand after losses, and nobody covers it for less
+ *     than cost - gap. Of a finished run the others are those of the reply to its file.
+ *   - Numbers that no start has written may pass for a started run: zero them before the first start. The calls stay within their
+ *     memory all the same.
+ * (answers_room counts numbers: at least 38.) */
+uint32_t shahfureel_run_ask(const uint64_t numbers[SHAHFUREEL_RUN_NUMBERS], int64_t *answers, size_t answers_room);
+
+static inline uint32_t shahfureel_start(struct shahfureel_run *run, const uint8_t *file, size_t file_length)
+{
+    return shahfureel_run_start(run->numbers, run->held, file, file_length);
+}
+
+static inline uint32_t shahfureel_advance(struct shahfureel_run *run, const uint8_t *file, size_t file_length, int64_t *answers,
+                                          size_t answers_room)
+{
+    return shahfureel_run_advance(run->numbers, run->held, file, file_length, answers, answers_room);
+}
+
+static inline uint32_t shahfureel_ask(const struct shahfureel_run *run, int64_t *answers, size_t answers_room)
+{
+    return shahfureel_run_ask(run->numbers, answers, answers_room);
+}
 
 #ifdef __cplusplus
 }

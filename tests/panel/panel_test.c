@@ -21,8 +21,8 @@ static void expect(int holds, const char *call, const char *what)
 
 /* ---- buffers between guards. Sizes and places are written out here and below; `sizes_named` compares the header's with them. */
 
-enum { GUARD = 16, ALIGNMENTS = 8, FILLED = 0xA5, BYTES = 1608, NUMBERS = 608, FLOORS = 98, ANSWERS = 5 };
-enum { SLOT = 18, TRACE = 98 * SLOT, HISTORIES = 34 };
+enum { GUARD = 16, ALIGNMENTS = 8, FILLED = 0xA5, BYTES = 1608, NUMBERS = 608, FLOORS = 98, ANSWERS = 40 };
+enum { SLOT = 18, TRACE = 98 * SLOT, HISTORIES = 34, RUN = 41 };
 
 /* histories at an address that is even and no multiple of 4: their numbers have 16 bits */
 struct history_space {
@@ -34,6 +34,7 @@ static uint8_t byte_space[GUARD + ALIGNMENTS + TRACE + GUARD];
 static uint32_t number_space[GUARD + NUMBERS + GUARD];
 static int64_t floor_space[GUARD + FLOORS + GUARD];
 static int64_t answer_space[GUARD + ANSWERS + GUARD];
+static uint64_t run_space[GUARD + RUN + GUARD];
 static union {
     uint32_t aligned;
     struct history_space space;
@@ -41,6 +42,7 @@ static union {
 static uint32_t *const numbers = number_space + GUARD;
 static int64_t *const floor_list = floor_space + GUARD;
 static int64_t *const answers = answer_space + GUARD;
+static uint64_t *const run_numbers = run_space + GUARD;
 static struct shahfureel_history *const histories = shifted.space.records + GUARD;
 
 static void fill(void)
@@ -49,6 +51,7 @@ static void fill(void)
     memset(number_space, FILLED, sizeof number_space);
     memset(floor_space, FILLED, sizeof floor_space);
     memset(answer_space, FILLED, sizeof answer_space);
+    memset(run_space, FILLED, sizeof run_space);
     memset(&shifted.space, FILLED, sizeof shifted.space);
 }
 
@@ -1139,6 +1142,313 @@ static void planning(size_t a)
     day_of_damaged(a);
 }
 
+/* ---- runs: the numbers of a run between guards, and its bytes too, from 1 to 8 past an aligned address */
+
+_Static_assert(sizeof(struct shahfureel_run) == 8 * 41 + 1608, "a run has no other bytes");
+_Static_assert(offsetof(struct shahfureel_run, numbers) == 0 && offsetof(struct shahfureel_run, held) == 328, "numbers, then bytes");
+_Static_assert(SHAHFUREEL_RUN_NUMBERS == 41 && SHAHFUREEL_RUN_BYTES == 1608 && SHAHFUREEL_RUN_ANSWERS == 38, "41, 1,608, 38");
+_Static_assert(SHAHFUREEL_NOT_STARTED == 0 && SHAHFUREEL_UNFINISHED == 1 && SHAHFUREEL_FINISHED == 2, "the states");
+
+/* the places of a run's numbers */
+enum { STARTED, DONE, EVALUATIONS, LOW, COST, SURPLUS, FLOOR, COUNT, LENGTH, OUTPUTS };
+
+static const struct shahfureel_run unstarted;
+
+static void lend(const struct shahfureel_run *run, size_t alignment)
+{
+    fill();
+    memcpy(run_numbers, run->numbers, sizeof run->numbers);
+    memcpy(byte_space + GUARD + alignment, run->held, sizeof run->held);
+}
+
+/* after a call, which may have written the run and so many answers */
+static void take_back(const char *call, struct shahfureel_run *run, size_t alignment, size_t answered)
+{
+    const uint8_t *held = byte_space + GUARD + alignment;
+    expect(kept_but(run_space, sizeof run_space, run_numbers, sizeof run->numbers) && bytes_kept_but(held, sizeof run->held) &&
+               answers_kept_but(answered),
+           call, "it writes its run and answers, no other");
+    memcpy(run->numbers, run_numbers, sizeof run->numbers);
+    memcpy(run->held, held, sizeof run->held);
+}
+
+static int same_run(const struct shahfureel_run *one, const struct shahfureel_run *other)
+{
+    return memcmp(one, other, sizeof *one) == 0;
+}
+
+/* a start, which changes the run unless it is refused */
+static void start_gives(struct shahfureel_run *run, const uint8_t *from, size_t file_length, size_t alignment, uint32_t number,
+                        const char *what)
+{
+    struct shahfureel_run before = *run;
+    lend(run, alignment);
+    uint8_t *file = copy_of(from, file_length, alignment);
+    expect(shahfureel_run_start(run_numbers, byte_space + GUARD + alignment, file, file_length) == number, "start", what);
+    release("start", file, from, file_length, alignment);
+    take_back("start", run, alignment, 0);
+    if (number != 0) {
+        expect(same_run(run, &before), "start", "a refusal changes nothing");
+        return;
+    }
+    expect(run->numbers[STARTED] == 1 && run->numbers[DONE] == 0 && run->numbers[EVALUATIONS] == 0 && run->numbers[FLOOR] == 0, "start",
+           "no evaluation");
+    expect(memcmp(run->held, from, file_length) == 0, "start", "it holds the file");
+    expect(memcmp(run->held + file_length, before.held + file_length, BYTES - file_length) == 0, "start", "and leaves the rest");
+}
+
+/* an advance that is refused, or says where the run stands; a run of another state than unfinished stays as it was */
+static void advance_gives(struct shahfureel_run *run, const uint8_t *from, size_t file_length, size_t alignment, size_t room,
+                          uint32_t number, int64_t state, const char *what)
+{
+    struct shahfureel_run before = *run;
+    lend(run, alignment);
+    uint8_t *file = copy_of(from, file_length, alignment);
+    expect(shahfureel_run_advance(run_numbers, byte_space + GUARD + alignment, file, file_length, answers, room) == number, "advance",
+           what);
+    release("advance", file, from, file_length, alignment);
+    take_back("advance", run, alignment, number == 0);
+    expect(number != 0 || answers[0] == state, "advance", what);
+    expect(memcmp(run->held, before.held, BYTES) == 0, "advance", "it keeps the bytes");
+    if (number != 0 || state == SHAHFUREEL_NOT_STARTED)
+        expect(same_run(run, &before), "advance", "it keeps the run");
+}
+
+/* what a run has, as 38 answers */
+static void ask(const struct shahfureel_run *run, size_t alignment, size_t room)
+{
+    struct shahfureel_run after;
+    lend(run, alignment);
+    expect(shahfureel_run_ask(run_numbers, answers, room) == (room < 38), "ask", "0, or 1 under 38 places");
+    take_back("ask", &after, alignment, room < 38 ? 0 : 38);
+    expect(same_run(run, &after), "ask", "it keeps the run");
+}
+
+static int has_asked(int64_t state, int64_t evaluations, int64_t cost, int64_t gap)
+{
+    return answers[0] == state && answers[2] == evaluations && answers[3] == cost && answers[4] == gap;
+}
+
+static int asked_as_replied(const uint8_t *reply)
+{
+    int same = answers[1] == shahfureel_reply_count(reply) && answers[5] == (int64_t)shahfureel_reply_surplus(reply) &&
+               has_asked(SHAHFUREEL_FINISHED, shahfureel_reply_evaluations(reply), (int64_t)shahfureel_reply_cost(reply),
+                         (int64_t)shahfureel_reply_gap(reply));
+    for (uint32_t i = 0; i < 32; i++)
+        same = same && answers[6 + i] == (i < answers[1] ? shahfureel_reply_output(reply, i) : 0);
+    return same;
+}
+
+/* a file run from its start to its end, asked after each advance, which leaves off where dispatch does, with its reply; after that
+ * it stays so, and a changed last byte is 24 at any time */
+static void run_to_the_end(const uint8_t *file, size_t file_length, size_t a)
+{
+    struct shahfureel_run run = unstarted, finished;
+    uint8_t reply[92], other[BYTES];
+    expect(shahfureel_dispatch(file, file_length, reply, sizeof reply) >= 30, "advance", "dispatch replies");
+    start_gives(&run, file, file_length, a, 0, "what dispatch replies to is started");
+    ask(&run, a, 38);
+    expect(has_asked(SHAHFUREEL_UNFINISHED, 0, answers[3], answers[3]), "ask", "before the first evaluation the gap is the cost");
+    memcpy(other, file, file_length);
+    other[file_length - 1] ^= 1;
+    int64_t most = shahfureel_reply_evaluations(reply), cost = answers[3], floor = 0;
+    for (int64_t k = 1; k <= most; k++) {
+        advance_gives(&run, other, file_length, a, 1, SHAHFUREEL_CASE_CHANGED, 0, "another last byte is 24");
+        advance_gives(&run, file, file_length, a, 1, 0, k < most ? SHAHFUREEL_UNFINISHED : SHAHFUREEL_FINISHED, "as long as dispatch");
+        ask(&run, a, ANSWERS);
+        expect(answers[2] == k && answers[3] <= cost && answers[3] - answers[4] >= floor, "ask", "no dearer, and no lower floor");
+        cost = answers[3];
+        floor = cost - answers[4];
+    }
+    expect(asked_as_replied(reply), "ask", "a finished run has dispatch's reply");
+    expect(run.numbers[DONE] == 1 && run.numbers[LOW] == 0 && run.numbers[LENGTH] == file_length, "advance", "finished, low end 0");
+    finished = run;
+    advance_gives(&run, file, file_length, a, 2, 0, SHAHFUREEL_FINISHED, "once finished it says so");
+    advance_gives(&run, other, file_length, a, 1, SHAHFUREEL_CASE_CHANGED, 0, "24 also of a finished run");
+    expect(same_run(&run, &finished), "advance", "a finished run stays as it was");
+}
+
+/* cost and gap of U5 at its start and after each advance */
+static const int64_t U5_STEPS[19][2] = {
+    {200000, 200000}, {200000, 200000}, {200000, 200000}, {200000, 200000}, {200000, 200000}, {200000, 200000}, {200000, 200000},
+    {200000, 200000}, {200000, 200000}, {200000, 200000}, {200000, 200000}, {200000, 200000}, {200000, 200000}, {200000, 160000},
+    {200000, 129000}, {119000, 48000},  {119000, 43000},  {119000, 43000},  {119000, 42000}};
+
+/* a run of U5 after so many advances */
+static struct shahfureel_run u5_after(int64_t advances, size_t a)
+{
+    struct shahfureel_run run = unstarted;
+    memset(run.held, FILLED, BYTES);
+    start_gives(&run, u5(), U5_BYTES, a, 0, "U5 is started");
+    for (int64_t k = 0; k <= advances; k++) {
+        ask(&run, a, 38);
+        int64_t state = k < 18 ? SHAHFUREEL_UNFINISHED : SHAHFUREEL_FINISHED;
+        expect(has_asked(state, k, U5_STEPS[k][0], U5_STEPS[k][1]), "ask", "U5 as the rules say");
+        expect(answers[1] == 1 && answers[6] == (U5_STEPS[k][0] == 200000 ? 10 : 7), "ask", "its output");
+        if (k < advances)
+            advance_gives(&run, u5(), U5_BYTES, a, 1, 0, k + 1 < 18 ? SHAHFUREEL_UNFINISHED : SHAHFUREEL_FINISHED, "U5 is advanced");
+    }
+    return run;
+}
+
+/* files that a start refuses, also of a run under way, which then goes on; an advance of that run gives 24 to each of them, and their
+ * own number only where made-up contents hold them */
+static void run_refused_file(const struct shahfureel_run *going, const uint8_t *from, size_t file_length, size_t a, uint32_t number,
+                             const char *what)
+{
+    struct shahfureel_run none = unstarted, run = *going;
+    uint8_t file[E2_BYTES + 1];
+    memcpy(file, from, file_length);
+    start_gives(&none, file, file_length, a, number, what);
+    advance_gives(&none, file, file_length, a, 1, 0, SHAHFUREEL_NOT_STARTED, "not started, whatever the file");
+    start_gives(&run, file, file_length, a, number, what);
+    advance_gives(&run, file, file_length, a, 1, SHAHFUREEL_CASE_CHANGED, 0, "24 comes before the file's checks");
+    advance_gives(&run, file, file_length, a, 0, SHAHFUREEL_BUFFER_TOO_SHORT, 0, "1 comes before 24");
+    memcpy(run.held, file, file_length);
+    run.numbers[LENGTH] = file_length;
+    advance_gives(&run, file, file_length, a, 1, number, 0, what);
+    run.numbers[DONE] = 1;
+    advance_gives(&run, file, file_length, a, 1, number, 0, "a finished run's file is checked too");
+}
+
+static void runs_refused(const struct shahfureel_run *going, size_t a)
+{
+    run_refused_file(going, u5(), 0, a, SHAHFUREEL_FILE_TOO_SHORT, "an empty file is 2");
+    run_refused_file(going, u5(), 7, a, SHAHFUREEL_FILE_TOO_SHORT, "a file of 7 bytes is 2");
+    run_refused_file(going, u5(), U5_BYTES - 1, a, SHAHFUREEL_CONTENTS_INVALID, "a cut file is 6");
+    run_refused_file(going, u5(), U5_BYTES + 1, a, SHAHFUREEL_CONTENTS_INVALID, "a padded file is 6");
+    run_refused_file(going, u5_but(7, 11), U5_BYTES, a, SHAHFUREEL_NO_ALLOCATION, "a demand of 11 is 11");
+    for (size_t i = 0; i < DAMAGED; i++)
+        run_refused_file(going, u5_but(damaged[i].at, damaged[i].value), U5_BYTES, a, damaged[i].number, damaged[i].what);
+    for (size_t i = 0; i < DAMAGED_2; i++)
+        run_refused_file(going, e2_damaged(i), E2_BYTES, a, damaged_2[i].number, damaged_2[i].what);
+}
+
+/* a run of U5 after 14 advances with one number changed, and whether it still counts as started */
+static const struct {
+    size_t at;
+    uint64_t value;
+    int started;
+    const char *what;
+} made_up[] = {
+    {STARTED, 0, 0, "started 0"},
+    {STARTED, 2, 0, "started 2"},
+    {STARTED, UINT64_C(0x100000001), 0, "a number has 64 bits"},
+    {DONE, 2, 0, "finished 2"},
+    {DONE, 1, 1, "finished at 14 evaluations"},
+    {EVALUATIONS, 17, 1, "17 evaluations"},
+    {EVALUATIONS, 18, 0, "18 evaluations, not finished"},
+    {EVALUATIONS, UINT64_MAX, 0, "too many evaluations"},
+    {LOW, 65521, 0, "a low end of 65,521 with 16 to go"},
+    {LOW, 65520, 1, "a low end of 65,520"},
+    {LOW, UINT64_MAX, 0, "the greatest low end"},
+    {COST, UINT64_C(35200000000001), 0, "a cost above all"},
+    {SURPLUS, UINT64_C(35200000000001), 0, "a surplus above all"},
+    {FLOOR, UINT64_C(35200000000001), 0, "a floor above all"},
+    {FLOOR, UINT64_C(35200000000000), 1, "a floor above the cost"},
+    {COUNT, 0, 0, "no unit"},
+    {COUNT, 33, 0, "33 units"},
+    {LENGTH, 1609, 0, "a file of 1,609 bytes"},
+    {OUTPUTS, 10001, 0, "an output above 10,000"},
+    {OUTPUTS + 31, 10001, 0, "the last output above 10,000"},
+};
+
+static void runs_made_up(const struct shahfureel_run *going, size_t a)
+{
+    for (size_t i = 0; i < sizeof made_up / sizeof made_up[0]; i++) {
+        struct shahfureel_run run = *going;
+        run.numbers[made_up[i].at] = made_up[i].value;
+        ask(&run, a, 38);
+        expect((answers[0] != SHAHFUREEL_NOT_STARTED) == made_up[i].started, "ask", made_up[i].what);
+        expect(answers[4] == (made_up[i].started ? (made_up[i].at == FLOOR ? 0 : 129000) : 0), "ask", "the gap is never negative");
+        if (!made_up[i].started)
+            advance_gives(&run, u5(), U5_BYTES, a, 1, 0, SHAHFUREEL_NOT_STARTED, made_up[i].what);
+        else if (made_up[i].at == DONE)
+            advance_gives(&run, u5(), U5_BYTES, a, 1, 0, SHAHFUREEL_FINISHED, made_up[i].what);
+    }
+    struct shahfureel_run run = *going, clean = *going;
+    run.numbers[LENGTH] = BYTES;
+    advance_gives(&run, u5(), U5_BYTES, a, 1, SHAHFUREEL_CASE_CHANGED, 0, "another length is 24");
+    run = *going;
+    memset(run.held + U5_BYTES, 0, BYTES - U5_BYTES);
+    advance_gives(&run, u5(), U5_BYTES, a, 1, 0, SHAHFUREEL_UNFINISHED, "bytes behind the file's do not count");
+    advance_gives(&clean, u5(), U5_BYTES, a, 1, 0, SHAHFUREEL_UNFINISHED, "U5 is advanced");
+    expect(memcmp(run.numbers, clean.numbers, sizeof run.numbers) == 0, "advance", "nor change they what is found");
+    memset(&run, FILLED, sizeof run);
+    ask(&run, a, 38);
+    expect(answers[0] == SHAHFUREEL_NOT_STARTED, "ask", "a run of any bytes is not started");
+    start_gives(&run, u5(), U5_BYTES, a, 0, "and can be started");
+    start_gives(&clean, u5(), U5_BYTES, a, 0, "a run under way is started anew");
+    expect(memcmp(run.numbers, clean.numbers, sizeof run.numbers) == 0, "start", "whatever it was");
+}
+
+/* two runs at once, by turns, and a copy of one: each goes its own way */
+static void runs_at_once(const struct shahfureel_run *going, size_t a)
+{
+    struct shahfureel_run one = *going, other = unstarted, copy;
+    uint8_t reply[92];
+    start_gives(&other, e2(), E2_BYTES, a, 0, "a second run is started");
+    advance_gives(&other, u5(), U5_BYTES, a, 1, SHAHFUREEL_CASE_CHANGED, 0, "the first run's file is 24");
+    advance_gives(&one, e2(), E2_BYTES, a, 1, SHAHFUREEL_CASE_CHANGED, 0, "the second run's file is 24");
+    for (int64_t k = 1; k <= 4; k++) {
+        copy = one;
+        advance_gives(&one, u5(), U5_BYTES, a, 1, 0, k < 4 ? SHAHFUREEL_UNFINISHED : SHAHFUREEL_FINISHED, "the first run");
+        advance_gives(&other, e2(), E2_BYTES, a, 1, 0, SHAHFUREEL_UNFINISHED, "the second run");
+        advance_gives(&copy, u5(), U5_BYTES, a, 1, 0, k < 4 ? SHAHFUREEL_UNFINISHED : SHAHFUREEL_FINISHED, "the copy");
+        expect(same_run(&one, &copy), "advance", "a copy goes the same way");
+    }
+    ask(&one, a, 38);
+    expect(asked_as_replied(U5_REPLY), "ask", "the first run has its reply");
+    for (int64_t k = 5; k <= 18; k++)
+        advance_gives(&other, e2(), E2_BYTES, a, 1, 0, k < 18 ? SHAHFUREEL_UNFINISHED : SHAHFUREEL_FINISHED, "the second run");
+    ask(&other, a, 38);
+    expect(asked_as_replied(E2_REPLY), "ask", "the second run has its own");
+    expect(shahfureel_dispatch(E2, E2_BYTES, reply, sizeof reply) == 30 && asked_as_replied(reply), "ask", "dispatch's");
+    start_gives(&one, e2(), E2_BYTES, a, 0, "a finished run is started with another file");
+    advance_gives(&one, u5(), U5_BYTES, a, 1, SHAHFUREEL_CASE_CHANGED, 0, "the old file is then 24");
+}
+
+static void running(size_t a)
+{
+    uint8_t file[BYTES];
+    struct shahfureel_run none = unstarted, going = u5_after(14, a);
+    u5_after(18, a);
+    ask(&none, a, 38);
+    for (size_t i = 0; i < 38; i++)
+        expect(answers[i] == 0, "ask", "a run that is not started has zeros");
+    advance_gives(&none, u5(), U5_BYTES, a, 0, SHAHFUREEL_BUFFER_TOO_SHORT, 0, "no place is 1 also of a run that is not started");
+    advance_gives(&none, u5(), U5_BYTES, a, ANSWERS, 0, SHAHFUREEL_NOT_STARTED, "not started");
+    advance_gives(&going, u5(), U5_BYTES, a, 0, SHAHFUREEL_BUFFER_TOO_SHORT, 0, "no place is 1");
+    ask(&going, a, 0);
+    ask(&going, a, 37);
+    runs_refused(&going, a);
+    runs_made_up(&going, a);
+    runs_at_once(&going, a);
+    for (size_t k = 0; k < LOWERED; k++)
+        run_to_the_end(file, lowered_file(k, file, sizeof file), a);
+    run_to_the_end(u5(), U5_BYTES, a);
+    run_to_the_end(e2(), E2_BYTES, a);
+    run_to_the_end(e2_with(5000, 4999), E2_BYTES, a);
+}
+
+/* the forms on the struct, and the header's names of what ask writes */
+static void runs_named(void)
+{
+    struct shahfureel_run run = {{0}, {0}};
+    int64_t state = 7, asked[SHAHFUREEL_RUN_ANSWERS];
+    expect(shahfureel_advance(&run, U5, sizeof U5, &state, 1) == 0 && state == SHAHFUREEL_NOT_STARTED, "names", "not started");
+    expect(shahfureel_start(&run, U5, 7) == SHAHFUREEL_FILE_TOO_SHORT, "names", "a refused start");
+    expect(shahfureel_start(&run, U5, sizeof U5) == 0, "names", "U5 is started");
+    for (int k = 0; k < 18; k++)
+        expect(shahfureel_advance(&run, U5, sizeof U5, &state, 1) == 0, "names", "U5 is advanced");
+    expect(state == SHAHFUREEL_FINISHED && shahfureel_ask(&run, asked, SHAHFUREEL_RUN_ANSWERS) == 0, "names", "U5 is finished");
+    expect(asked[SHAHFUREEL_ASKED_STATE] == SHAHFUREEL_FINISHED && asked[SHAHFUREEL_ASKED_COUNT] == 1, "names", "state, count");
+    expect(asked[SHAHFUREEL_ASKED_EVALUATIONS] == 18 && asked[SHAHFUREEL_ASKED_COST] == 119000, "names", "evaluations, cost");
+    expect(asked[SHAHFUREEL_ASKED_GAP] == 42000 && asked[SHAHFUREEL_ASKED_SURPLUS] == 200000000, "names", "gap, surplus");
+    expect(asked[SHAHFUREEL_ASKED_OUTPUTS] == 7 && asked[SHAHFUREEL_ASKED_OUTPUTS + 31] == 0, "names", "outputs");
+    expect(shahfureel_advance(&run, E2, sizeof E2, &state, 1) == SHAHFUREEL_CASE_CHANGED, "names", "another case is 24");
+}
+
 /* ---- packing */
 
 static uint32_t pack(uint32_t demand, const uint32_t *from, size_t rows_length, size_t alignment, size_t file_room)
@@ -1335,6 +1645,7 @@ static void longest_reply(const uint8_t *file, size_t length)
     judging_replies(file, length, 1);
     floors_of_reply(file, length, 1);
     days_of_file(file, length, 1);
+    run_to_the_end(file, length, 1);
 }
 
 /* 32 times V: the longest file of edition 1 */
@@ -1471,6 +1782,7 @@ int main(void)
     replies_named();
     slots_named();
     judgements_named();
+    runs_named();
     advice();
     for (size_t alignment = 1; alignment <= ALIGNMENTS; alignment++) {
         dispatching(alignment);
@@ -1479,6 +1791,7 @@ int main(void)
         judging(alignment);
         flooring(alignment);
         planning(alignment);
+        running(alignment);
         packing(alignment);
         unpacking(alignment);
     }

@@ -19,6 +19,8 @@ static uint32_t rows[SHAHFUREEL_ROWS_NUMBERS], outputs[SHAHFUREEL_UNITS_MAX], de
 static int64_t floors[SHAHFUREEL_DEMANDS_MAX], answers[SHAHFUREEL_JUDGE_ANSWERS];
 static uint8_t trace[SHAHFUREEL_DEMANDS_MAX * SHAHFUREEL_SLOT_BYTES];
 static struct shahfureel_history histories[SHAHFUREEL_HISTORIES];
+static struct shahfureel_run run;
+static int64_t state, asked[SHAHFUREEL_RUN_ANSWERS];
 static size_t file_length, units;
 static uint32_t reply_length;
 
@@ -38,6 +40,15 @@ static void day(void)
     shahfureel_day(file, file_length, demands, SHAHFUREEL_DEMANDS_MAX, trace, sizeof trace, histories, SHAHFUREEL_HISTORIES, answers,
                    1);
 }
+static void start(void) { shahfureel_start(&run, file, file_length); }
+/* to the run's end: what one of its advances takes at most */
+static void advance(void)
+{
+    do
+        shahfureel_advance(&run, file, file_length, &state, 1);
+    while (state == SHAHFUREEL_UNFINISHED);
+}
+static void ask(void) { shahfureel_ask(&run, asked, SHAHFUREEL_RUN_ANSWERS); }
 
 static const struct {
     const char *name;
@@ -48,6 +59,8 @@ static const struct {
     {"pack", pack, SHAHFUREEL_STACK_PACK},             {"unpack", unpack, SHAHFUREEL_STACK_UNPACK},
     {"view", view, SHAHFUREEL_STACK_VIEW},             {"judge", judge, SHAHFUREEL_STACK_JUDGE},
     {"floors", floor_list, SHAHFUREEL_STACK_FLOORS},   {"day", day, SHAHFUREEL_STACK_DAY},
+    {"start", start, SHAHFUREEL_STACK_START},          {"advance", advance, SHAHFUREEL_STACK_ADVANCE},
+    {"ask", ask, SHAHFUREEL_STACK_ASK},
 };
 
 enum { CALLS = sizeof calls / sizeof calls[0] };

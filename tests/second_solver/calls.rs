@@ -1,7 +1,7 @@
 //! The calls of the specification, with their inputs and the size of the buffer that is lent: seven that the runner makes too,
 //! the operations on its run, and the day, which it leaves out.
 
-use crate::solver::{self, Asked, Refused, Run, State};
+use crate::solver::{self, Asked, Numbers, Refused, Run, State};
 
 #[derive(Clone, Debug)]
 pub enum Call {
@@ -35,10 +35,10 @@ impl Call {
     }
 }
 
-/// An operation on a run: numbers put into it, or one of the three calls.
+/// An operation on a run: numbers put into it, and bytes at the start of those that it holds; or one of the three calls.
 #[derive(Clone, Debug)]
 pub enum Operation {
-    Put(Run),
+    Put(Numbers, Vec<u8>),
     Start(Vec<u8>),
     Advance(Vec<u8>),
     Ask,
@@ -57,13 +57,14 @@ impl Operation {
     /// The answer of the second solver, and the run as it leaves it.
     pub fn perform(&self, run: &mut Run) -> Answer {
         match self {
-            Operation::Put(numbers) => {
-                *run = *numbers;
+            Operation::Put(numbers, bytes) => {
+                run.numbers = *numbers;
+                run.held[..bytes.len()].copy_from_slice(bytes);
                 Answer::Put
             }
-            Operation::Start(file) => Answer::Started(solver::start(run, file)),
-            Operation::Advance(file) => Answer::Advanced(solver::advance(run, file)),
-            Operation::Ask => Answer::Asked(solver::ask(run)),
+            Operation::Start(file) => Answer::Started(solver::start(&mut run.numbers, &mut run.held, file)),
+            Operation::Advance(file) => Answer::Advanced(solver::advance(&mut run.numbers, &run.held, file)),
+            Operation::Ask => Answer::Asked(solver::ask(&run.numbers)),
         }
     }
 }

@@ -3,17 +3,14 @@
 //! to be what the library's own dispatch gives for its case.
 
 use second_solver::calls::Day;
+use second_solver::hex;
 use second_solver::lent::{difference_of, random_byte, random_history, random_i64, random_u32, Lent};
-use second_solver::random::{seed_of_clock, Random};
+use second_solver::program::{self, refusal, Comparison};
+use second_solver::random::Random;
 use second_solver::slots::{stated, KINDS};
 use second_solver::slotted::{Reached, Seen, Slot};
 use second_solver::solver::{self, History, Refused, Reply, Unit, SLOT};
 use second_solver::tally::{Numbers, POSSIBLE_OF_DAYS};
-use second_solver::{hex, vectors};
-use std::time::{Duration, Instant};
-
-/// A run makes so many cases at least, as it has to reach every branch.
-const LEAST_CASES: u64 = 400;
 
 extern "C" {
     fn shahfureel_dispatch(file: *const u8, file_length: usize, reply: *mut u8, reply_length: usize) -> u32;
@@ -82,10 +79,6 @@ fn library_answer(buffers: &mut Buffers) -> u32 {
 fn solver_answer(day: &Day, buffers: &mut Buffers) -> u32 {
     let Buffers { trace, histories, answers, .. } = buffers;
     solver::panel_day(&day.file, &day.demands, trace.part(), histories.part(), answers.part())
-}
-
-fn refusal(number: u32) -> Option<Refused> {
-    Some(Refused(number)).filter(|_| number > 0)
 }
 
 // ---- comparing
@@ -202,32 +195,17 @@ fn total_by(slots: &[Slot]) -> i128 {
     slots.iter().filter_map(|slot| slot.answer.as_ref().ok()).map(|reply| reply.cost).sum()
 }
 
-// ---- cases and runs
-
-fn exit_if_wrong(result: Result<(), String>, which: &str) {
-    if let Err(text) = result {
-        println!("{}\n{}", text.trim_end(), which);
-        std::process::exit(1);
-    }
-}
+// ---- cases
 
 #[derive(Default)]
-struct Run {
+struct Days {
     numbers: Numbers,
     reached: Reached,
     cases: u64,
     slots: u64,
 }
 
-impl Run {
-    /// Makes the case of a seed: a kind, and its calls.
-    fn case(&mut self, seed: u64) -> Result<(), String> {
-        let mut random = Random::new(seed);
-        let days = random.pick(&KINDS)(&mut random);
-        self.cases += 1;
-        self.calls(&days, &mut random)
-    }
-
+impl Days {
     fn calls(&mut self, days: &[Day], random: &mut Random) -> Result<(), String> {
         for day in days {
             let (number, mut buffers) = compare(day, random)?;
@@ -242,14 +220,22 @@ impl Run {
         }
         Ok(())
     }
+}
 
-    fn stated_or_exit(&mut self, seed: u64) {
-        exit_if_wrong(self.calls(&stated(), &mut Random::new(seed)), "a stated day");
+impl Comparison for Days {
+    const NAME: &'static str = "days";
+    const LEAST_CASES: u64 = 400;
+
+    fn stated(&mut self, seed: u64) -> Result<(), String> {
+        self.calls(&stated(), &mut Random::new(seed))
     }
 
-    fn case_or_exit(&mut self, seed: u64) {
-        let repeat = format!("case seed {}: repeat it with `tests/second_solver/days --case {}`", seed, seed);
-        exit_if_wrong(self.case(seed), &repeat);
+    /// A kind of the seed, and its calls.
+    fn case(&mut self, seed: u64) -> Result<(), String> {
+        let mut random = Random::new(seed);
+        let days = random.pick(&KINDS)(&mut random);
+        self.cases += 1;
+        self.calls(&days, &mut random)
     }
 
     fn print(&self) {
@@ -258,37 +244,13 @@ impl Run {
             println!("{}", line);
         }
     }
-}
 
-/// Runs the stated days, then cases of a seed for some seconds. It has to reach every refusal and every branch.
-fn run_for(seconds: u64, seed: u64) {
-    println!("seed {}", seed);
-    let end = Instant::now() + Duration::from_secs(seconds);
-    let mut run = Run::default();
-    let mut seeds = Random::new(seed);
-    run.stated_or_exit(seed);
-    while Instant::now() < end || run.cases < LEAST_CASES {
-        run.case_or_exit(seeds.next());
+    fn assert_complete(&self) {
+        self.numbers.assert_complete("day", POSSIBLE_OF_DAYS);
+        self.reached.assert_complete();
     }
-    run.print();
-    run.numbers.assert_complete("day", POSSIBLE_OF_DAYS);
-    run.reached.assert_complete();
-    println!("repeat this run with seed {}", seed);
 }
 
 fn main() {
-    let arguments: Vec<String> = std::env::args().skip(1).collect();
-    let arguments: Vec<&str> = arguments.iter().map(String::as_str).collect();
-    let number = |text: &str| text.parse::<u64>().expect("a number");
-    vectors::check();
-    match arguments.as_slice() {
-        ["--case", seed] => {
-            let mut run = Run::default();
-            run.case_or_exit(number(seed));
-            run.print();
-        }
-        [seconds] => run_for(number(seconds), seed_of_clock()),
-        [seconds, seed] => run_for(number(seconds), number(seed)),
-        _ => panic!("usage: days SECONDS [SEED], or days --case SEED"),
-    }
+    program::run::<Days>();
 }

@@ -620,11 +620,16 @@ fn exact_demand(random: &mut Random, edition: i128) -> Vec<Call> {
     calls_of_case(&case, random)
 }
 
+/// 32 units of four zones, up to the greatest output.
+pub fn largest_units(random: &mut Random, edition: i128) -> Vec<Unit> {
+    (0..32).map(|_| Unit { greatest: 10_000, mark: 0, ..unit(random, edition, 9_800, 20, 4) }).collect()
+}
+
 /// Files of the greatest length, 32 units of four zones up to the greatest output: free, of the greatest costs without a b and with
 /// the greatest, and of any; in edition 2 with the least b1, with the greatest, and with any. Each at demand 0, at half of capacity,
 /// at capacity and one above.
 fn largest(random: &mut Random, edition: i128) -> Vec<Call> {
-    let units: Vec<Unit> = (0..32).map(|_| Unit { greatest: 10_000, mark: 0, ..unit(random, edition, 9_800, 20, 4) }).collect();
+    let units = largest_units(random, edition);
     let alike =
         |c0, c1, c2, b, b1| -> Vec<Unit> { units.iter().map(|unit| Unit { c0, c1, c2, b, b1, ..unit.clone() }).collect() };
     let (least_b1, most_b1) = if edition == 2 { (-GREATEST_B1, GREATEST_B1) } else { (0, 0) };

@@ -39,6 +39,10 @@ pub fn random_u32(random: &mut Random) -> u32 {
     random.next() as u32
 }
 
+pub fn random_u64(random: &mut Random) -> u64 {
+    random.next()
+}
+
 pub fn random_i64(random: &mut Random) -> i64 {
     random.next() as i64
 }

@@ -1,4 +1,4 @@
-//! The second solver and its test cases, shared by the three programs.
+//! The second solver and its test cases, shared by the four programs.
 
 pub mod branches;
 pub mod calls;
@@ -10,6 +10,7 @@ pub mod judged;
 pub mod lent;
 pub mod lowered;
 pub mod outputs;
+pub mod program;
 pub mod promise;
 pub mod random;
 pub mod runs;

@@ -419,8 +419,8 @@ impl Loads {
 
 // ---- runs
 
-/// What is known of a run since its last accepted start, if each advance had that file: the case, its search and reply, and how many
-/// advances there were. Of a small case the least cost of the allocations that cover, too.
+/// What is known of a run since its last accepted start: the file, its case, search and reply, and how many advances there were with
+/// the same bytes. Of a small case the least cost of the allocations that cover, too.
 struct Followed {
     file: Vec<u8>,
     problem: Problem,
@@ -455,7 +455,8 @@ impl Followed {
 
     /// The first sentence that a run breaks.
     fn broken_sentence(&self, run: &Run) -> Option<&'static str> {
-        let asked = solver::ask(run);
+        let Run { numbers, held } = run;
+        let asked = solver::ask(numbers);
         let outputs = &asked.outputs[..self.problem.offers.len()];
         let allocation = match permitted_allocation(&self.problem.offers, outputs) {
             Some(allocation) => allocation,
@@ -465,11 +466,13 @@ impl Followed {
         let is_finished = asked.state == State::Finished;
         let told = (asked.evaluations, asked.cost, asked.gap, asked.surplus, outputs);
         let reply = &self.reply;
+        let length = self.file.len();
         let sentences = [
+            (numbers[8] == length as u64 && held[..length] == self.file, "the run holds the file of the last accepted start"),
             (asked.count as usize == outputs.len(), "the count is the number of units"),
             (is_finished == (self.advances as i128 >= reply.evaluations), "finished exactly after dispatch's evaluations"),
             (asked.evaluations == self.evaluations() as i128, "one evaluation to an advance"),
-            (allocation == best && i128::from(run[6]) == floor, "a run is the search so far"),
+            (allocation == best && i128::from(numbers[6]) == floor, "a run is the search so far"),
             (asked.surplus >= 0 && solver::total_net(&allocation) - self.problem.demand_net == asked.surplus, "the outputs cover"),
             (solver::total_cost(&allocation) == asked.cost, "the cost is exact"),
             (asked.cost - asked.gap == floor, "cost - gap is the greatest floor so far"),
@@ -487,44 +490,70 @@ impl Followed {
 #[derive(Default)]
 pub struct Runs {
     followed: Option<Followed>,
+    /// Whether numbers other than zeros were put into it, and no start was accepted since.
+    is_made_up: bool,
     /// How many moments were checked, how many of them by brute force, and how many runs came to their end.
-    pub moments: u64,
-    pub by_brute_force: u64,
-    pub ends: u64,
+    moments: u64,
+    by_brute_force: u64,
+    ends: u64,
 }
 
 impl Runs {
     /// Checks every sentence for an operation, its answer and the run before and after it. An error has the sentence that fails, and
     /// the operation.
     pub fn check(&mut self, operation: &Operation, before: &Run, answer: &Answer, after: &Run, is_small: bool) -> Result<(), String> {
-        let state = solver::ask(before).state;
-        self.follow(operation, state, answer, is_small);
-        let change = broken_change(operation, state, before, answer, after);
+        let refusal = self.broken_refusal(operation, answer);
+        self.follow(operation, answer, is_small);
+        let change = refusal.or_else(|| broken_change(operation, before, answer, after));
         let broken = change.or_else(|| self.broken_moment(operation, before, after));
         broken.map_or(Ok(()), |sentence| {
             Err(format!("not so: {}\n{:?}\nof {:?}\nanswer {:?}\nthen {:?}", sentence, operation, before, answer, after))
         })
     }
 
-    fn follow(&mut self, operation: &Operation, state: State, answer: &Answer, is_small: bool) {
+    pub fn line(&self) -> String {
+        let (moments, by_brute_force, ends) = (self.moments, self.by_brute_force, self.ends);
+        format!("{} moments of runs checked, {} of them by brute force; {} runs stepped to their end", moments, by_brute_force, ends)
+    }
+
+    fn follow(&mut self, operation: &Operation, answer: &Answer, is_small: bool) {
         match (operation, answer, &mut self.followed) {
-            (Operation::Put(_), _, followed) => *followed = None,
-            (Operation::Start(file), Answer::Started(Ok(())), followed) => *followed = Some(Followed::of(file, is_small)),
-            (Operation::Advance(file), Answer::Advanced(Ok(_)), Some(followed)) if *file == followed.file => {
+            (Operation::Put(numbers, _), _, followed) => {
+                self.is_made_up = *numbers != ZEROS;
+                *followed = None;
+            }
+            (Operation::Start(file), Answer::Started(Ok(())), followed) => {
+                self.is_made_up = false;
+                *followed = Some(Followed::of(file, is_small));
+            }
+            (Operation::Advance(file), _, Some(followed)) if *file == followed.file => {
                 followed.advances += 1;
                 self.ends += u64::from(followed.advances == followed.search.visits.len());
             }
-            (Operation::Advance(_), Answer::Advanced(Ok(_)), followed) if state == State::Unfinished => *followed = None,
             _ => {}
         }
     }
 
+    /// An advance of a run that a start has made is refused exactly where the bytes differ, and then with 24.
+    fn broken_refusal(&self, operation: &Operation, answer: &Answer) -> Option<&'static str> {
+        let (file, followed) = match (operation, &self.followed) {
+            (Operation::Advance(file), Some(followed)) => (file, followed),
+            _ => return None,
+        };
+        let number = if *file == followed.file { None } else { Some(Refused(24)) };
+        Some("an advance is refused exactly where the bytes differ, with 24").filter(|_| answer.refused() != number)
+    }
+
     fn broken_moment(&mut self, operation: &Operation, before: &Run, after: &Run) -> Option<&'static str> {
-        let followed = self.followed.as_ref()?;
+        let followed = match &self.followed {
+            Some(followed) => followed,
+            None if self.is_made_up || after.numbers == ZEROS => return None,
+            None => return Some("zeros stay until a start is accepted"),
+        };
         self.moments += 1;
         self.by_brute_force += u64::from(followed.cheapest.is_some());
         let is_start = matches!(operation, Operation::Start(_)) && followed.advances == 0;
-        if !is_start && (after[4] > before[4] || after[6] < before[6]) {
+        if !is_start && (after.numbers[4] > before.numbers[4] || after.numbers[6] < before.numbers[6]) {
             return Some("between two starts cost never rises and floor never falls");
         }
         followed.broken_sentence(after)
@@ -532,7 +561,8 @@ impl Runs {
 }
 
 /// What an operation may not do to any run.
-fn broken_change(operation: &Operation, state: State, before: &Run, answer: &Answer, after: &Run) -> Option<&'static str> {
+fn broken_change(operation: &Operation, before: &Run, answer: &Answer, after: &Run) -> Option<&'static str> {
+    let state = solver::ask(&before.numbers).state;
     let is_advance = matches!(operation, Operation::Advance(_));
     let not_started = match answer {
         Answer::Advanced(answer) => *answer == Ok(State::NotStarted),
@@ -544,10 +574,17 @@ fn broken_change(operation: &Operation, state: State, before: &Run, answer: &Ans
         Answer::Advanced(Ok(_)) => state == State::Unfinished,
         _ => false,
     };
+    // how many of the held bytes may be others than before
+    let taken = match (operation, answer) {
+        (Operation::Put(_, bytes), _) => bytes.len(),
+        (Operation::Start(file), Answer::Started(Ok(()))) => file.len(),
+        _ => 0,
+    };
     let asks_or_advances = is_advance || matches!(operation, Operation::Ask);
     let sentences = [
         (may_change || before == after, "asks, refusals and advances of a run that is not started or finished change nothing"),
-        (!asks_or_advances || *before != ZEROS || not_started, "zeros are not started"),
+        (before.held[taken..] == after.held[taken..], "bytes behind the file of an accepted start stay"),
+        (!asks_or_advances || before.numbers != ZEROS || not_started, "zeros are not started"),
         (!not_started || state == State::NotStarted, "advance and ask agree on what is not started"),
         (!is_advance || state == State::NotStarted || !not_started, "a started run is advanced"),
     ];

@@ -665,11 +665,27 @@ fn encode_slot(answer: &Result<Reply, Refused>) -> Vec<u8> {
 
 // ---- a search that is looked at while it runs
 
-/// A run: started, finished, evaluations, low, cost, surplus, floor, count, and 32 outputs.
-pub type Run = [u64; 40];
+/// The numbers of a run: started, finished, evaluations, low, cost, surplus, floor, count, length, and 32 outputs.
+pub type Numbers = [u64; 41];
 
-/// A run that is not started.
-pub const ZEROS: Run = [0; 40];
+/// The bytes that a run holds: its file, and behind it what is not looked at.
+pub type Held = [u8; GREATEST_LENGTH];
+
+/// The greatest length of a file that is accepted.
+pub const GREATEST_LENGTH: usize = 1_608;
+
+/// Numbers that are not started.
+pub const ZEROS: Numbers = [0; 41];
+
+/// A run.
+#[derive(Clone, Debug, PartialEq, Eq)]
+pub struct Run {
+    pub numbers: Numbers,
+    pub held: Held,
+}
+
+/// A run of zeros.
+pub const EMPTY: Run = Run { numbers: ZEROS, held: [0; GREATEST_LENGTH] };
 
 /// What cost, surplus and floor of a started run are at most.
 pub const GREATEST_IN_RUN: i128 = 35_200_000_000_000;
@@ -684,13 +700,15 @@ pub struct Progress {
     pub surplus: i128,
     pub floor: i128,
     pub count: i128,
+    /// Of the file that is held.
+    pub length: i128,
     /// 32 of them, zeros behind those of the units.
     pub outputs: Vec<i128>,
 }
 
 impl Progress {
-    /// None where the numbers do not fit together (rule 22.4).
-    pub fn of(run: &Run) -> Option<Progress> {
+    /// None where the numbers do not fit together (rules 22.4 and 23.1).
+    pub fn of(run: &Numbers) -> Option<Progress> {
         let numbers = run.map(i128::from);
         let progress = Progress {
             finished: run[1] == 1,
@@ -700,7 +718,8 @@ impl Progress {
             surplus: numbers[5],
             floor: numbers[6],
             count: numbers[7],
-            outputs: numbers[8..].to_vec(),
+            length: numbers[8],
+            outputs: numbers[9..].to_vec(),
         };
         Some(progress).filter(|progress| run[0] == 1 && run[1] <= 1 && progress.fits())
     }
@@ -711,6 +730,7 @@ impl Progress {
         is_a_stage
             && amounts.iter().all(|amount| *amount <= GREATEST_IN_RUN)
             && (1..=32).contains(&self.count)
+            && self.length <= GREATEST_LENGTH as i128
             && self.outputs.iter().all(|output| *output <= 10_000)
     }
 
@@ -718,12 +738,17 @@ impl Progress {
         self.low == 0 || self.low + (1 << (18 - self.evaluations)) <= GREATEST_MULTIPLIER
     }
 
-    fn numbers(&self) -> Run {
+    fn numbers(&self) -> Numbers {
         let mut numbers = vec![1, i128::from(self.finished), self.evaluations, self.low];
-        numbers.extend([self.cost, self.surplus, self.floor, self.count]);
+        numbers.extend([self.cost, self.surplus, self.floor, self.count, self.length]);
         numbers.extend(&self.outputs);
         let numbers: Vec<u64> = numbers.into_iter().map(|number| u64::try_from(number).expect("a number of a run")).collect();
-        numbers.try_into().expect("40 numbers")
+        numbers.try_into().expect("41 numbers")
+    }
+
+    /// The file of the run.
+    pub fn file<'a>(&self, held: &'a Held) -> &'a [u8] {
+        &held[..self.length as usize]
     }
 
     /// What is evaluated next (rule 22.3).
@@ -775,12 +800,12 @@ impl Progress {
     }
 }
 
-/// Where a run stands.
+/// Where a run stands; its number in C.
 #[derive(Clone, Copy, Debug, PartialEq, Eq)]
 pub enum State {
-    NotStarted,
-    Unfinished,
-    Finished,
+    NotStarted = 0,
+    Unfinished = 1,
+    Finished = 2,
 }
 
 /// What is told of a run: zeros of one that is not started.
@@ -796,23 +821,25 @@ pub struct Asked {
     pub outputs: Vec<i128>,
 }
 
-/// Starts a run of a file: its best are the greatest outputs.
-pub fn start(run: &mut Run, file: &[u8]) -> Result<(), Refused> {
+/// Starts a run of a file: its best are the greatest outputs, and it holds the file.
+pub fn start(run: &mut Numbers, held: &mut Held, file: &[u8]) -> Result<(), Refused> {
     let problem = problem(&decode(file)?)?;
-    let count = problem.offers.len() as i128;
+    let (count, length) = (problem.offers.len() as i128, file.len() as i128);
     let (finished, evaluations, low, floor) = (false, 0, 0, 0);
-    let mut progress = Progress { finished, evaluations, low, cost: 0, surplus: 0, floor, count, outputs: vec![] };
+    let mut progress = Progress { finished, evaluations, low, cost: 0, surplus: 0, floor, count, length, outputs: vec![] };
     progress.take(&problem, &problem.greatest);
     *run = progress.numbers();
+    held[..file.len()].copy_from_slice(file);
     Ok(())
 }
 
-/// Makes the next evaluation of a run, and tells where it then stands.
-pub fn advance(run: &mut Run, file: &[u8]) -> Result<State, Refused> {
+/// Makes the next evaluation of a run, if the file is the one that it holds, and tells where it then stands.
+pub fn advance(run: &mut Numbers, held: &Held, file: &[u8]) -> Result<State, Refused> {
     let mut progress = match Progress::of(run) {
         Some(progress) => progress,
         None => return Ok(State::NotStarted),
     };
+    refuse_if(progress.file(held) != file, 24)?;
     let problem = problem(&decode(file)?)?;
     if !progress.finished {
         progress.evaluate(&problem);
@@ -822,7 +849,7 @@ pub fn advance(run: &mut Run, file: &[u8]) -> Result<State, Refused> {
 }
 
 /// Tells what a run has so far.
-pub fn ask(run: &Run) -> Asked {
+pub fn ask(run: &Numbers) -> Asked {
     let nothing = Asked { state: State::NotStarted, count: 0, evaluations: 0, cost: 0, gap: 0, surplus: 0, outputs: vec![0; 32] };
     Progress::of(run).map_or(nothing, |progress| Asked {
         state: progress.state(),
@@ -963,6 +990,29 @@ pub fn panel_day(file: &[u8], demands: &[u32], trace: &mut [u8], histories: &mut
     let solved = refuse_if(answers.is_empty(), 1).and_then(|()| day(file, demands, trace, histories));
     number_of(solved.map(|total| {
         answers[0] = i64::try_from(total).expect("a total of 64 bits");
+        0
+    }))
+}
+
+pub fn panel_run_start(run: &mut Numbers, held: &mut Held, file: &[u8]) -> u32 {
+    number_of(start(run, held, file).map(|()| 0))
+}
+
+pub fn panel_run_advance(run: &mut Numbers, held: &Held, file: &[u8], answers: &mut [i64]) -> u32 {
+    let advanced = refuse_if(answers.is_empty(), 1).and_then(|()| advance(run, held, file));
+    number_of(advanced.map(|state| {
+        answers[0] = state as i64;
+        0
+    }))
+}
+
+pub fn panel_run_ask(run: &Numbers, answers: &mut [i64]) -> u32 {
+    number_of(refuse_if(answers.len() < 38, 1).map(|()| {
+        let Asked { state, count, evaluations, cost, gap, surplus, outputs } = ask(run);
+        let numbers = [&[state as i128, count, evaluations, cost, gap, surplus], &outputs[..]].concat();
+        for (answer, number) in answers.iter_mut().zip(numbers) {
+            *answer = i64::try_from(number).expect("a number of 64 bits");
+        }
         0
     }))
 }

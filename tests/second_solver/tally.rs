@@ -30,12 +30,17 @@ pub const POSSIBLE_IN_C: [&[usize]; CALLS] = [
 /// The numbers that the day can give in C (rules 21.1 and 21.9).
 pub const POSSIBLE_OF_DAYS: &[usize] = &[1, 2, 3, 4, 5, 6, 7, 8, 9, 10, 18, 22, 23];
 
-/// The numbers that a start or an advance of a run can give (rules 22.5 and 22.6).
-pub const POSSIBLE_OF_RUNS: &[usize] = &[2, 3, 4, 5, 6, 7, 8, 9, 10, 11, 18];
+/// The numbers that a start of a run can give (rule 22.5), and an advance (rules 22.6 and 23.2).
+pub const POSSIBLE_OF_STARTS: &[usize] = &[2, 3, 4, 5, 6, 7, 8, 9, 10, 11, 18];
+pub const POSSIBLE_OF_ADVANCES: &[usize] = &[2, 3, 4, 5, 6, 7, 8, 9, 10, 11, 18, 24];
+
+/// The same of an advance in C (rule 23.4), and what an ask can give there.
+pub const POSSIBLE_OF_ADVANCES_IN_C: &[usize] = &[1, 2, 3, 4, 5, 6, 7, 8, 9, 10, 11, 18, 24];
+pub const POSSIBLE_OF_ASKS_IN_C: &[usize] = &[1];
 
 /// Counts of one call by number; number 0 stands for an answer.
 #[derive(Default)]
-pub struct Numbers([u64; 24]);
+pub struct Numbers([u64; 25]);
 
 impl Numbers {
     pub fn count(&mut self, refused: Option<Refused>) {

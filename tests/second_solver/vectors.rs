@@ -1,8 +1,9 @@
 //! Cases with the numbers that are stated for them: the table of rule 17.1, and vectors that see what the table does not.
 
-use crate::calls::Day;
+use crate::calls::Operation::{self, Advance, Start};
+use crate::calls::{Answer, Day};
 use crate::hex;
-use crate::solver::{self, Case, History, Judged, Priced, Refused, Reply, Run, State, Unit};
+use crate::solver::{self, Case, History, Judged, Numbers, Priced, Refused, Reply, Run, State, Unit, EMPTY};
 
 /// The file of case U5 (rule 15.5).
 const U5: &str = "0001000100000005000c001e000000000000271003e800000002000a000000000000000000010004\
@@ -1021,29 +1022,28 @@ pub fn steppings() -> Vec<Stepping> {
 impl Stepping {
     fn check(&self) {
         let file = solver::encode(&self.case);
-        let mut run = solver::ZEROS;
-        assert_eq!(solver::start(&mut run, &file), Ok(()), "a start of {:?}", self.case);
+        let Run { mut numbers, mut held } = EMPTY;
+        assert_eq!(solver::start(&mut numbers, &mut held, &file), Ok(()), "a start of {:?}", self.case);
         for advances in 0..=20 {
             let (_, outputs, cost, gap) = self.moments.iter().rev().find(|moment| moment.0 <= advances).expect("a moment");
-            let asked = solver::ask(&run);
+            let asked = solver::ask(&numbers);
             let told = (&asked.outputs[..asked.count as usize], asked.cost, asked.gap, asked.evaluations);
             assert_eq!(told, (&outputs[..], *cost, *gap, advances.min(self.last)), "{:?} after {} advances", self.case, advances);
             assert_eq!(asked.state == State::Finished, advances >= self.last, "{:?} after {} advances", self.case, advances);
             let after = if advances + 1 < self.last { State::Unfinished } else { State::Finished };
-            assert_eq!(solver::advance(&mut run, &file), Ok(after), "{:?} advanced after {} advances", self.case, advances);
+            assert_eq!(solver::advance(&mut numbers, &held, &file), Ok(after), "{:?} advanced after {} advances", self.case, advances);
         }
     }
 }
 
 /// The run of U5 after its start with some numbers changed: the gap that is told, or none where it is not started.
-pub fn changed_runs() -> Vec<(Run, Option<i128>)> {
+pub fn changed_runs() -> Vec<(Numbers, Option<i128>)> {
     let changed = |changes: &[(usize, u64)], gap| {
-        let mut run = solver::ZEROS;
-        solver::start(&mut run, &solver::encode(&u5())).expect("a start of U5");
+        let mut numbers = started_u5().numbers;
         for (place, number) in changes {
-            run[*place] = *number;
+            numbers[*place] = *number;
         }
-        (run, gap)
+        (numbers, gap)
     };
     vec![
         changed(&[], Some(200_000)),
@@ -1073,11 +1073,89 @@ pub fn changed_runs() -> Vec<(Run, Option<i128>)> {
         changed(&[(7, 0)], None),
         changed(&[(7, 32)], Some(200_000)),
         changed(&[(7, 33)], None),
-        changed(&[(8, 10_000)], Some(200_000)),
-        changed(&[(8, 10_001)], None),
-        changed(&[(39, 10_000)], Some(200_000)),
-        changed(&[(39, 10_001)], None),
+        changed(&[(8, 0)], Some(200_000)),
+        changed(&[(8, 1_608)], Some(200_000)),
+        changed(&[(8, 1_609)], None),
+        changed(&[(9, 10_000)], Some(200_000)),
+        changed(&[(9, 10_001)], None),
+        changed(&[(40, 10_000)], Some(200_000)),
+        changed(&[(40, 10_001)], None),
     ]
+}
+
+fn started_u5() -> Run {
+    let Run { mut numbers, mut held } = EMPTY;
+    solver::start(&mut numbers, &mut held, &solver::encode(&u5())).expect("a start of U5");
+    Run { numbers, held }
+}
+
+/// Operations one after the other, from zeros, on U5, on U with other demands and on files with a byte changed: what each answers,
+/// and how many evaluations are then told.
+pub fn watched() -> Vec<(Operation, Answer, i128)> {
+    let of_demand = |demand| solver::encode(&Case { demand, ..u5() });
+    let (own, other, uncovered, short, empty) = (of_demand(5), of_demand(1), of_demand(11), vec![0; 7], vec![]);
+    let end = own.len() - 1;
+    let with_byte = |place: usize, byte| [&own[..place], &[byte], &own[place + 1..]].concat();
+    let changed = [with_byte(0, 1), with_byte(7, 6), with_byte(25, 3), with_byte(end, 8), own[..end].to_vec(), [&own[..], &[0]].concat()];
+    let advanced = |file: &[u8], state| (Advance(file.to_vec()), Answer::Advanced(Ok(state)));
+    let case_changed = |file: &[u8]| (Advance(file.to_vec()), Answer::Advanced(Err(Refused(24))));
+    let begun = |file: &[u8]| (Start(file.to_vec()), Answer::Started(Ok(())));
+    let start_refused = |file: &[u8], number| (Start(file.to_vec()), Answer::Started(Err(Refused(number))));
+    let mut list = vec![];
+    let mut add = |(operation, answer), evaluations| list.push((operation, answer, evaluations));
+    // not started, whatever it is handed
+    for file in [&own, &other, &uncovered, &short, &empty] {
+        add(advanced(file, State::NotStarted), 0);
+    }
+    add(start_refused(&uncovered, 11), 0);
+    add(advanced(&uncovered, State::NotStarted), 0);
+    // 24 ahead of 2 and 11; the run goes on, also behind starts that are refused
+    add(begun(&own), 0);
+    for made in 1..=17 {
+        for file in changed.iter().chain([&other, &uncovered, &short, &empty]) {
+            if made < 3 {
+                add(case_changed(file), made - 1);
+            }
+        }
+        if made == 4 {
+            add(start_refused(&uncovered, 11), 3);
+            add(case_changed(&uncovered), 3);
+            add(start_refused(&short, 2), 3);
+            add(start_refused(&changed[5], 6), 3);
+        }
+        add(advanced(&own, State::Unfinished), made);
+    }
+    // the same of a finished run
+    add(advanced(&own, State::Finished), 18);
+    for file in changed.iter().chain([&other, &uncovered, &short, &empty]) {
+        add(case_changed(file), 18);
+    }
+    add(start_refused(&short, 2), 18);
+    add(advanced(&own, State::Finished), 18);
+    // a start with the same file begins anew; one with another holds that
+    add(begun(&own), 0);
+    add(advanced(&own, State::Unfinished), 1);
+    add(case_changed(&other), 1);
+    add(begun(&other), 0);
+    add(advanced(&other, State::Unfinished), 1);
+    add(case_changed(&own), 1);
+    add(begun(&other), 0);
+    add(case_changed(&own), 0);
+    add(advanced(&other, State::Unfinished), 1);
+    add(begun(&own), 0);
+    add(case_changed(&other), 0);
+    add(advanced(&own, State::Unfinished), 1);
+    list
+}
+
+fn check_watched() -> usize {
+    let watched = watched();
+    let mut run = EMPTY;
+    for (operation, answer, evaluations) in &watched {
+        assert_eq!(operation.perform(&mut run), *answer, "{:?}", operation);
+        assert_eq!(solver::ask(&run.numbers).evaluations, *evaluations, "behind {:?}", operation);
+    }
+    watched.len()
 }
 
 fn check_steppings() -> usize {
@@ -1085,13 +1163,14 @@ fn check_steppings() -> usize {
     for stepping in &steppings {
         stepping.check();
     }
-    for (run, gap) in &changed_runs {
-        let asked = solver::ask(run);
-        assert_eq!(Some(asked.gap).filter(|_| asked.state != State::NotStarted), *gap, "{:?}", run);
-        let answer = solver::advance(&mut run.clone(), &solver::encode(&u5()));
-        assert_eq!(answer == Ok(State::NotStarted), gap.is_none(), "{:?} advanced", run);
+    let Run { held, .. } = started_u5();
+    for (numbers, gap) in &changed_runs {
+        let asked = solver::ask(numbers);
+        assert_eq!(Some(asked.gap).filter(|_| asked.state != State::NotStarted), *gap, "{:?}", numbers);
+        let answer = solver::advance(&mut numbers.clone(), &held, &solver::encode(&u5()));
+        assert_eq!(answer == Ok(State::NotStarted), gap.is_none(), "{:?} advanced", numbers);
     }
-    steppings.len() + changed_runs.len()
+    steppings.len() + changed_runs.len() + check_watched()
 }
 
 /// Asserts every number that is stated; tells how many vectors there are.

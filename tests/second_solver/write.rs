@@ -6,9 +6,9 @@ use second_solver::calls::{bytes_of, Answer, Call, Operation};
 use second_solver::generate::{accepted_kinds, kinds};
 use second_solver::promise::{self, Floors, Judgements, Runs};
 use second_solver::random::Random;
-use second_solver::solver::{self, Asked, Judged, Refused, Run, State, ZEROS};
+use second_solver::solver::{self, Asked, Held, Judged, Refused, Run, State, EMPTY};
 use second_solver::stepped::Stepped;
-use second_solver::tally::{Numbers, Tally, POSSIBLE, POSSIBLE_OF_RUNS};
+use second_solver::tally::{Numbers, Tally, POSSIBLE, POSSIBLE_OF_ADVANCES, POSSIBLE_OF_STARTS};
 use second_solver::{hex, runs, vectors};
 
 const SEED: u64 = 1;
@@ -47,7 +47,7 @@ struct Operations {
 impl Default for Operations {
     fn default() -> Operations {
         let (starts, advances, asks) = (Numbers::default(), Numbers::default(), 0);
-        Operations { run: ZEROS, starts, advances, asks, stepped: Stepped::default(), promises: Runs::default() }
+        Operations { run: EMPTY, starts, advances, asks, stepped: Stepped::default(), promises: Runs::default() }
     }
 }
 
@@ -70,7 +70,7 @@ fn main() {
     let by_brute_force =
         format!("{} dispatches, {} judgements and {} floors checked by brute force", dispatches, judgements, floors);
     println!("{} calls, {}", files.tally.total(), by_brute_force);
-    println!("{}", files.operations.line());
+    println!("{}", files.operations.promises.line());
     let operations = files.operations.lines();
     for line in files.kind_lines().iter().chain(&files.tally.lines()).chain(&files.reached.lines()).chain(&operations) {
         println!("{}", line);
@@ -174,13 +174,15 @@ impl Files {
 
     fn add_operation(&mut self, operation: &Operation) {
         self.records.push(match operation {
-            Operation::Put(numbers) => record(8, 0, 0, &bytes_of_run(numbers)),
+            Operation::Put(numbers, bytes) => record(8, 0, 0, &[&bytes_of_numbers(numbers), &bytes[..]].concat()),
             Operation::Start(file) => record(9, 0, 0, file),
             Operation::Advance(file) => record(10, 0, 0, file),
             Operation::Ask => record(11, 0, 0, &[]),
         });
         let answer = self.operations.perform(operation);
-        self.lines.push(format!("{} {}", words_of(&answer), decimals(&self.operations.run)));
+        let Run { numbers, held } = &self.operations.run;
+        let sums = if matches!(operation, Operation::Put(..) | Operation::Start(_)) { sums_of(held) } else { String::new() };
+        self.lines.push(format!("{}{} {}", words_of(&answer), sums, decimals(numbers)));
     }
 
     /// One line to a kind, with the count of its calls.
@@ -221,7 +223,7 @@ impl Files {
 impl Operations {
     /// Performs an operation, counts it and checks what is promised.
     fn perform(&mut self, operation: &Operation) -> Answer {
-        let before = self.run;
+        let before = self.run.clone();
         let answer = operation.perform(&mut self.run);
         let is_small = matches!(operation, Operation::Start(file) if is_small(file));
         if let Err(message) = self.promises.check(operation, &before, &answer, &self.run, is_small) {
@@ -232,17 +234,9 @@ impl Operations {
             Operation::Start(_) => self.starts.count(answer.refused()),
             Operation::Advance(_) => self.advances.count(answer.refused()),
             Operation::Ask => self.asks += 1,
-            Operation::Put(_) => {}
+            Operation::Put(..) => {}
         }
         answer
-    }
-
-    fn line(&self) -> String {
-        let promises = &self.promises;
-        format!(
-            "{} moments of runs checked, {} of them by brute force; {} runs stepped to their end",
-            promises.moments, promises.by_brute_force, promises.ends
-        )
     }
 
     fn lines(&self) -> Vec<String> {
@@ -253,15 +247,25 @@ impl Operations {
     }
 
     fn assert_complete(&self) {
-        self.starts.assert_complete("start", POSSIBLE_OF_RUNS);
-        self.advances.assert_complete("advance", POSSIBLE_OF_RUNS);
+        self.starts.assert_complete("start", POSSIBLE_OF_STARTS);
+        self.advances.assert_complete("advance", POSSIBLE_OF_ADVANCES);
         self.stepped.assert_complete();
     }
 }
 
 /// The numbers of a run, 8 bytes to a number.
-fn bytes_of_run(run: &Run) -> Vec<u8> {
-    run.iter().flat_map(|number| number.to_be_bytes()).collect()
+fn bytes_of_numbers(numbers: &[u64]) -> Vec<u8> {
+    numbers.iter().flat_map(|number| number.to_be_bytes()).collect()
+}
+
+/// The sum of the held bytes, and the sum of the sums of the first, the first two and so on, with a space before each.
+fn sums_of(held: &Held) -> String {
+    let (mut sum, mut sums) = (0, 0);
+    for byte in held {
+        sum += u64::from(*byte);
+        sums += sum;
+    }
+    format!(" {} {}", sum, sums)
 }
 
 /// Whether a file is accepted and small enough for brute force.

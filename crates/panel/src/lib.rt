@@ -1,11 +1,12 @@
 // The panel's calls, as C sees them: a slice is a pointer and then a length, an answer is a number. Each does what the call on
-// slices does and tells its answer in numbers (rules 14.1 to 14.4, 18.8, 19.7, 20.8, 21.9). `include/shahfureel.h` declares them.
+// slices does and tells its answer in numbers (rules 14.1 to 14.4, 18.8, 19.7, 20.8, 21.9, 23.4). `include/shahfureel.h` declares them.
 ghost use mathlib.Core.Path.{_≡_};
 ghost use mathlib.Core.Bool.{cond};
 ghost use mathlib.Core.List.{[], _∷_};
 ghost use Prim.Native.Nat.{_≤_};
 ghost use lib.IntN.{pos};
 ghost use lib.ListN.{length};
+ghost use Rattle.answering.specs.Answers.{panelStarted, panelAdvanced, panelAsked};
 ghost use Rattle.rules.specs.Calls.{panelDispatched, panelPriced, panelPacked, panelUnpacked};
 ghost use Rattle.rules.specs.Lists.{over};
 ghost use Rattle.modbus.specs.View.{panelViewed};
@@ -213,4 +214,41 @@ pub extern "C" fn shahfureel_day(
     let own = file_for(file, answers.len());
     let s = day::day(own, demands, trace, histories);
     tell(s, answers)
+}
+
+#[no_mangle]
+pub extern "C" fn shahfureel_run_start(
+    numbers: &mut [u64; 41],
+    held: &mut [u8; 1608],
+    file: &[u8],
+) -> u32
+    ensures { λ n. ⌜ panelStarted (now (numbers .entry)) (now (held .entry)) (now (file .entry)) ≡ record { number = n; numbers = now (numbers .exit); bytes = now (held .exit) } ⌝ }
+{
+    answering::tell_started(stepping::start(numbers, held, file))
+}
+
+#[no_mangle]
+pub extern "C" fn shahfureel_run_advance(
+    numbers: &mut [u64; 41],
+    held: &[u8; 1608],
+    file: &[u8],
+    answers: &mut [i64],
+) -> u32
+    ensures { λ n. ⌜ panelAdvanced (now (numbers .entry)) (now (held .entry)) (now (file .entry)) (now (answers .entry)) ≡ record { number = n; numbers = now (numbers .exit); answers = now (answers .exit) } ⌝ }
+{
+    if answers.len() == 0 {
+        return refusal_number::number(Refusal::BufferTooShort);
+    }
+    answering::tell_advanced(stepping::advance(numbers, held, file), answers)
+}
+
+#[no_mangle]
+pub extern "C" fn shahfureel_run_ask(numbers: &[u64; 41], answers: &mut [i64]) -> u32
+    ensures { λ n. ⌜ panelAsked (now (numbers .entry)) (now (answers .entry)) ≡ record { number = n; answers = now (answers .exit) } ⌝ }
+{
+    if answers.len() < 38 {
+        return refusal_number::number(Refusal::BufferTooShort);
+    }
+    answering::tell_asked(numbers, answers);
+    0
 }

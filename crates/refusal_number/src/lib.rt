@@ -30,5 +30,6 @@ pub fn number(r: Refusal) -> u32
         Refusal::FloorsTooShort => 21,
         Refusal::DayDemandsInvalid => 22,
         Refusal::DayBuffersTooShort => 23,
+        Refusal::CaseChanged => 24,
     }
 }

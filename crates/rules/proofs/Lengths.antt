@@ -33,6 +33,7 @@ use Rattle.rules.specs.declared.Refusal.the-variants.{
   FloorsTooShort,
   DayDemandsInvalid,
   DayBuffersTooShort,
+  CaseChanged,
 }
 use Rattle.rules.specs.declared.Dispatched.{Dispatched}
 use Rattle.rules.specs.declared.Packed.{Packed}
@@ -66,6 +67,7 @@ number-below-30 DemandsInvalid = omega arith
 number-below-30 FloorsTooShort = omega arith
 number-below-30 DayDemandsInvalid = omega arith
 number-below-30 DayBuffersTooShort = omega arith
+number-below-30 CaseChanged = omega arith
 
 -- ---- lengths
 

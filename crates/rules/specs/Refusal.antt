@@ -1,4 +1,4 @@
--- Rules 4.1 to 4.10 of docs/SPECIFICATION.md: the refusals, their numbers, and the checks of a file and of a unit in their order. (The order of each call as a whole is in `Calls`, in `modbus/specs/View`, `judging/specs/Judging`, `sensitivity/specs/Floors` and `day/specs/Day`.)
+-- Rules 4.1 to 4.10 of docs/SPECIFICATION.md: the refusals, their numbers, and the checks of a file and of a unit in their order. (The order of each call as a whole is in `Calls`, in `modbus/specs/View`, `judging/specs/Judging`, `sensitivity/specs/Floors`, `day/specs/Day` and `stepping/specs/Runs`.)
 use Prim.Native.Nat.{ℕ, zero, suc, _+_, _*_}
 use mathlib.Core.Bool.{Bool, true, cond, not, _&&_, _||_}
 use mathlib.Core.List.{List, [], _∷_}
@@ -34,6 +34,7 @@ use Rattle.rules.specs.declared.Refusal.the-variants.{
   FloorsTooShort,
   DayDemandsInvalid,
   DayBuffersTooShort,
+  CaseChanged,
 }
 use Rattle.rules.specs.declared.Verdict.{Verdict}
 use Rattle.rules.specs.declared.Verdict.the-variants.{Accepted, Refused}
@@ -65,6 +66,7 @@ numberOf DemandsInvalid = 20
 numberOf FloorsTooShort = 21
 numberOf DayDemandsInvalid = 22
 numberOf DayBuffersTooShort = 23
+numberOf CaseChanged = 24
 
 -- what checking finds, as a number: 0 where nothing is refused
 abbrev pub numberOfVerdict : Verdict → ℕ

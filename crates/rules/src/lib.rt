@@ -48,6 +48,7 @@ pub enum Refusal {
     DayDemandsInvalid,
     // Of a day: a trace under 18 bytes a demand, or under 32 histories.
     DayBuffersTooShort,
+    CaseChanged,
 }
 
 // What checking finds.

@@ -188,7 +188,8 @@ pub fn run(
     bytes: &mut [u8],
     numbers: &mut [u32],
     integers: &mut [i64],
-    run: &mut [u64; 40],
+    run: &mut [u64; 41],
+    held: &mut [u8; 1608],
 ) {
     if call == 1 {
         word(b"dispatch ");
@@ -212,6 +213,6 @@ pub fn run(
         word(b"floors ");
         floors(given, argument as usize, room, numbers, integers);
     } else {
-        running::operate(call, given, run);
+        running::operate(call, given, run, held);
     }
 }

@@ -16,7 +16,8 @@ fn run_record(
     bytes: &mut [u8],
     numbers: &mut [u32],
     integers: &mut [i64],
-    run: &mut [u64; 40],
+    run: &mut [u64; 41],
+    held: &mut [u8; 1608],
 ) -> bool {
     let mut head = [0u8; 10];
     let got = io::read_full(STDIN_FILENO, &mut head);
@@ -43,6 +44,7 @@ fn run_record(
         numbers,
         integers,
         run,
+        held,
     );
     true
 }
@@ -54,12 +56,13 @@ fn run_records(
     bytes: &mut [u8],
     numbers: &mut [u32],
     integers: &mut [i64],
-    run: &mut [u64; 40],
+    run: &mut [u64; 41],
+    held: &mut [u8; 1608],
 ) -> bool {
     let mut left = records;
     while left > 0 {
         left -= 1;
-        if !run_record(given, bytes, numbers, integers, run) {
+        if !run_record(given, bytes, numbers, integers, run, held) {
             return false;
         }
     }
@@ -88,7 +91,8 @@ fn main() {
     let mut bytes = io::buffer();
     let mut numbers = number_buffer();
     let mut integers = integer_buffer();
-    let mut run = [0u64; 40];
+    let mut run = [0u64; 41];
+    let mut held = [0u8; 1608];
     if !run_records(
         records,
         &mut given,
@@ -96,6 +100,7 @@ fn main() {
         &mut numbers,
         &mut integers,
         &mut run,
+        &mut held,
     ) {
         word(b"the input is not in the runner's format\n");
     }

@@ -12,6 +12,7 @@ use lib.Dec.{leb, ltb, eqb}
 use lib.IntN.{ℤ, pos}
 use lib.ListN.{length, take, drop, replicate, length-map}
 use lib.Pow.{pow-pos, pow-mono}
+use lib.Seq.{take-append-seam}
 use borrow.Author.Tests.{le-leb, lt-leb, lt-ltb, le-ltb, eq-eqb, ne-eqb}
 use Rattle.rules.specs.Lists.{all, over, Every, True}
 use Rattle.rules.specs.Numbers.{natural}
@@ -30,16 +31,17 @@ use Rattle.rules.proofs.Verdicts.{and-true}
 use Rattle.rules.proofs.Lists.{all-every, every-more, length-each}
 use Rattle.rules.proofs.Demand3.{case-accepted, allocation-length, allocation-small}
 use Rattle.rules.proofs.Replied.{few-units}
-use Rattle.rules.proofs.Encoding.SoundFile.{sound-file, units-sound}
+use Rattle.rules.proofs.Encoding.SoundFile.{sound-file, units-sound, accepted-length}
 use Rattle.rules.proofs.Economics.Stages.{advanced-next}
 use Rattle.rules.proofs.Economics.Solvable.{case-proper}
 use Rattle.rules.proofs.Economics.Solution.{same-cost, same-net, given-permitted}
 use Rattle.rules.proofs.Economics.Totals.{total-cost-range, total-net-range}
 use Rattle.stepping.specs.declared.Advanced.{Advanced}
-use Rattle.stepping.specs.Runs.{Run, stageAt, stageOf, widthAt, flag, isFinished, lowOf, stageFits, amountsFit, outputsFit, begun, runFrom, evaluated, runIn, numbersOf, unstarted, stateTold, startEnds, started, AdvanceResult, advancedBy, Operation, start, advance, ask, numbersAfter, performed}
-use Rattle.stepping.specs.Claims.{greatestSoFar, afterOf, runAt, runAfter, Course, none, since, startTurns, advanceTurns, turned, courseOf, Handed, SameCase, numbersAt}
+use Rattle.stepping.specs.Runs.{Run, stageAt, stageOf, widthAt, flag, isFinished, lowOf, stageFits, amountsFit, outputsFit, begun, runFrom, evaluated, runIn, numbersOf, unstarted, stateTold, held, same, StartResult, startEnds, started, AdvanceResult, advancedBy, Operation, start, advance, ask, Lent, lentAfter, performed}
+use Rattle.stepping.specs.Claims.{greatestSoFar, afterOf, runAt, runAfter, Course, none, since, startTurns, turned, courseOf, numbersAt, Stands}
 use Rattle.stepping.proofs.Widths.{width-power}
-use Rattle.stepping.proofs.Endings.{advance-unstarted, advance-refused, advance-finished, advance-made}
+use Rattle.stepping.proofs.Endings.{advance-unstarted, advance-changed, advance-finished, advance-made}
+use Rattle.stepping.proofs.Comparing.{same-equal, same-itself}
 use Rattle.stepping.proofs.Progress.{done, Placed, after-placed, after-still, afterOf-given, afterOf-covers, afterOf-floor}
 
 -- ---- stages and numbers
@@ -130,7 +132,7 @@ module _ (file : List ℕ) (accepted : caseVerdict file ≡ Verdict.Accepted) wh
     pub best-length : length (s .best) ≡ length (caseOf file .units)
     best-length = allocation-length (caseOf file .units) (s .best) permitted
 
-    stage-is : stageOf (runAfter q k) ≡ s .stage
+    stage-is : stageOf (runAfter file k) ≡ s .stage
     unfolding stageOf
     stage-is = stage-read (s .stage) (length (s .evaluated)) placed
 
@@ -151,10 +153,10 @@ module _ (file : List ℕ) (accepted : caseVerdict file ≡ Verdict.Accepted) wh
         (all-every (λ p. leb p 10000) (s .best) .1 (every-more (λ p. p ≤ 10000) (λ p. leb p 10000 ≡ true) (λ p h. le-leb p 10000 h) (s .best) small))
         (all-behind (λ p. leb p 10000) (length (s .best)) (replicate 32 0) refl)
 
-    pub begins : begun (runAfter q k) ≡ true
+    pub begins : begun (runAfter file k) ≡ true
     unfolding begun
     begins =
-        let r = runAfter q k in
+        let r = runAfter file k in
         rw (
           stage-fits (s .stage) (length (s .evaluated)) placed,
           le-leb (r .cost) 35200000000000 (omega (arith, cost-small)),
@@ -162,6 +164,7 @@ module _ (file : List ℕ) (accepted : caseVerdict file ≡ Verdict.Accepted) wh
           le-leb (r .floor) 35200000000000 (omega (arith, cost-small, floor-below)),
           lt-ltb 0 (r .count) (omega (arith, some, count-is)),
           le-leb (r .count) 32 (omega (arith, few, count-is)),
+          le-leb (length file) 1608 (accepted-length file (ok .0) .1),
         ) outputs-fit
 
     -- ---- one evaluation more
@@ -172,19 +175,19 @@ module _ (file : List ℕ) (accepted : caseVerdict file ≡ Verdict.Accepted) wh
     abbrev taken : List ℕ
     taken = selected (nextMultiplier (s .stage)) q
 
-    by-cover : (t : Bool) → leb (target q) (totalNet (unitsOf q) taken) ≡ t → evaluated q (runAfter q k) ≡ runAt q next
+    by-cover : (t : Bool) → leb (target q) (totalNet (unitsOf q) taken) ≡ t → evaluated q (runAfter file k) ≡ runAt q (length file) next
     unfolding evaluated
     by-cover true e = rw (stage-is, e, add-one) refl
     by-cover false e = rw (stage-is, e, add-one) refl
 
-    pub evaluated-more : (s .stage ≡ finished → ⊥) → evaluated q (runAfter q k) ≡ runAfter q (suc k)
-    evaluated-more u = by-cover (leb (target q) (totalNet (unitsOf q) taken)) refl ∙ ap (runAt q) (sym (advanced-next (λ m. selected m q) (totalNet (unitsOf q)) (target q) s (s .stage) refl u))
+    pub evaluated-more : (s .stage ≡ finished → ⊥) → evaluated q (runAfter file k) ≡ runAfter file (suc k)
+    evaluated-more u = by-cover (leb (target q) (totalNet (unitsOf q) taken)) refl ∙ ap (runAt q (length file)) (sym (advanced-next (λ m. selected m q) (totalNet (unitsOf q)) (target q) s (s .stage) refl u))
 
-    pub stays : s .stage ≡ finished → runAfter q (suc k) ≡ runAfter q k
-    stays e = ap (runAt q) (after-still (λ m. selected m q) (totalNet (unitsOf q)) (target q) (greatestOutputs q) k e)
+    pub stays : s .stage ≡ finished → runAfter file (suc k) ≡ runAfter file k
+    stays e = ap (runAt q (length file)) (after-still (λ m. selected m q) (totalNet (unitsOf q)) (target q) (greatestOutputs q) k e)
 
   -- before the first evaluation
-  pub from-start : runFrom q ≡ runAfter q 0
+  pub from-start : runFrom q (length file) ≡ runAfter file 0
   unfolding runFrom
   from-start = refl
 
@@ -199,24 +202,24 @@ finished-or-not finished = inl refl
 pub unfinished-flag : (st : Stage) → (st ≡ finished → ⊥) → isFinished st ≡ false
 unfinished-flag st u = ⊎-elim (λ e. absurd (u e)) (λ e. e) (finished-or-not st)
 
-module _ (file : List ℕ) (a : caseVerdict file ≡ Verdict.Accepted) (k : ℕ) where
+module _ (file : List ℕ) (a : caseVerdict file ≡ Verdict.Accepted) (k : ℕ) (bytes : List ℕ) (h : same (held (numbersOf (runAfter file k)) bytes) file ≡ true) where
   abbrev run : Run
-  run = runAfter (problemIn file) k
+  run = runAfter file k
 
   abbrev later : Run
-  later = runAfter (problemIn file) (suc k)
+  later = runAfter file (suc k)
 
-  by-stage : Dec (afterOf (problemIn file) k .stage ≡ finished) → advancedBy (numbersOf run) file ≡ record { answer = stateTold (later .finished); numbers = numbersOf later }
+  by-stage : Dec (afterOf (problemIn file) k .stage ≡ finished) → advancedBy (numbersOf run) bytes file ≡ record { answer = stateTold (later .finished); numbers = numbersOf later }
   by-stage (yes e) =
       let flagged : run .finished ≡ 1 = ap (λ (st : Stage). flag (isFinished st)) e in
-      let same : later ≡ run = stays file a k e in
-      let told : stateTold (later .finished) ≡ Advanced.Finished = ap (λ (r : Run). stateTold (r .finished)) same ∙ ap stateTold flagged in
-      advance-finished (numbersOf run) file (begins file a k) a flagged ∙ (λ i. record { answer = sym told i; numbers = numbersOf (sym same i) })
+      let unmoved : later ≡ run = stays file a k e in
+      let told : stateTold (later .finished) ≡ Advanced.Finished = ap (λ (r : Run). stateTold (r .finished)) unmoved ∙ ap stateTold flagged in
+      advance-finished (numbersOf run) bytes file (begins file a k) h a flagged ∙ (λ i. record { answer = sym told i; numbers = numbersOf (sym unmoved i) })
   by-stage (no u) =
       let flagged : run .finished ≡ 0 = ap flag (unfinished-flag (afterOf (problemIn file) k .stage) u) in
-      advance-made (numbersOf run) file (begins file a k) a (λ z. omega (arith, flagged)) (sym (evaluated-more file a k u)) refl
+      advance-made (numbersOf run) bytes file (begins file a k) h a (λ z. omega (arith, flagged)) (sym (evaluated-more file a k u)) refl
 
-  pub advanced-on : advancedBy (numbersOf run) file ≡ record { answer = stateTold (later .finished); numbers = numbersOf later }
+  pub advanced-on : advancedBy (numbersOf run) bytes file ≡ record { answer = stateTold (later .finished); numbers = numbersOf later }
   advanced-on = by-stage (done (afterOf (problemIn file) k .stage))
 
 pub unstarted-not : begun (runIn unstarted) ≡ false
@@ -228,27 +231,42 @@ abbrev pub Known : Course → Type 0
 Known none = True
 Known (since f k) = caseVerdict f ≡ Verdict.Accepted
 
-started-on : (v : Verdict) (file : List ℕ) → caseVerdict file ≡ v → (c : Course) → Known c → (startEnds v (numbersAt c) file .numbers ≡ numbersAt (startTurns v file c)) × Known (startTurns v file c)
+abbrev lentBy : StartResult → Lent
+lentBy s = record { numbers = s .numbers; bytes = s .bytes }
+
+started-on : (v : Verdict) (file : List ℕ) → caseVerdict file ≡ v → (c : Course) → Known c → (r : Lent) → Stands c r → Stands (startTurns v file c) (lentBy (startEnds v (r .numbers) (r .bytes) file)) × Known (startTurns v file c)
 unfolding startEnds
-started-on Verdict.Accepted file e c h = (ap numbersOf (from-start file e), e)
-started-on (Verdict.Refused r) file e c h = (refl, h)
+started-on Verdict.Accepted file e c h r s = (record { numbers = ap numbersOf (from-start file e); file = ap (λ (n : List ℕ). held n (over file (r .bytes))) (ap numbersOf (from-start file e)) ∙ take-append-seam file (drop (length file) (r .bytes)) }, e)
+started-on (Verdict.Refused x) file e c h r s = (s, h)
 
-advanced-led : (v : Verdict) (f : List ℕ) (k : ℕ) → caseVerdict f ≡ Verdict.Accepted → (file : List ℕ) → caseVerdict file ≡ v → (caseVerdict file ≡ Verdict.Accepted → file ≡ f) → (advancedBy (numbersOf (runAfter (problemIn f) k)) file .numbers ≡ numbersAt (advanceTurns v f k)) × Known (advanceTurns v f k)
-advanced-led Verdict.Accepted f k h file e d = (ap (λ (r : AdvanceResult). r .numbers) (ap (advancedBy (numbersOf (runAfter (problemIn f) k))) (d e) ∙ advanced-on f h k), h)
-advanced-led (Verdict.Refused r) f k h file e d = (ap (λ (x : AdvanceResult). x .numbers) (advance-refused (numbersOf (runAfter (problemIn f) k)) file (begins f h k) r e), h)
+-- by whether the bytes are those held
+advanced-led : (t : Bool) (f : List ℕ) (k : ℕ) → caseVerdict f ≡ Verdict.Accepted → (r : Lent) → Stands (since f k) r → (file : List ℕ) → same f file ≡ t → let c = cond t (since f (suc k)) (since f k) in Stands c (record { numbers = advancedBy (r .numbers) (r .bytes) file .numbers; bytes = r .bytes }) × Known c
+advanced-led true f k h r s file e =
+    let bytes = r .bytes in
+    let run = numbersOf (runAfter f k) in
+    let holds : held run bytes ≡ f = ap (λ (n : List ℕ). held n bytes) (sym (s .numbers)) ∙ s .file in
+    let moved : advancedBy (r .numbers) bytes file .numbers ≡ numbersOf (runAfter f (suc k)) = ap₂ (λ (n x : List ℕ). advancedBy n bytes x .numbers) (s .numbers) (sym (same-equal f file e)) ∙ ap (λ (x : AdvanceResult). x .numbers) (advanced-on f h k bytes (ap (λ (x : List ℕ). same x f) holds ∙ same-itself f)) in
+    (record { numbers = moved; file = ap (λ (n : List ℕ). held n bytes) moved ∙ holds }, h)
+advanced-led false f k h r s file e =
+    let bytes = r .bytes in
+    let run = numbersOf (runAfter f k) in
+    let holds : held run bytes ≡ f = ap (λ (n : List ℕ). held n bytes) (sym (s .numbers)) ∙ s .file in
+    let stayed : advancedBy (r .numbers) bytes file .numbers ≡ run = ap (λ (n : List ℕ). advancedBy n bytes file .numbers) (s .numbers) ∙ ap (λ (x : AdvanceResult). x .numbers) (advance-changed run bytes file (begins f h k) (ap (λ (x : List ℕ). same x file) holds ∙ e)) in
+    (record { numbers = stayed; file = ap (λ (n : List ℕ). held n bytes) stayed ∙ holds }, h)
 
-led : (c : Course) → Known c → (o : Operation) → Handed c o → (numbersAfter (numbersAt c) o ≡ numbersAt (turned c o)) × Known (turned c o)
+led : (c : Course) → Known c → (r : Lent) → Stands c r → (o : Operation) → Stands (turned c o) (lentAfter r o) × Known (turned c o)
 unfolding started
-led c h (start file) d = started-on (caseVerdict file) file refl c h
-led none h (advance file) d = (ap (λ (r : AdvanceResult). r .numbers) (advance-unstarted unstarted file unstarted-not), tt)
-led (since f k) h (advance file) d = advanced-led (caseVerdict file) f k h file refl d
-led none h ask d = (refl, h)
-led (since f k) h ask d = (refl, h)
+led c h r s (start file) = started-on (caseVerdict file) file refl c h r s
+led none h r s (advance file) =
+    let stayed : advancedBy (r .numbers) (r .bytes) file .numbers ≡ unstarted = ap (λ (n : List ℕ). advancedBy n (r .bytes) file .numbers) (s .numbers) ∙ ap (λ (x : AdvanceResult). x .numbers) (advance-unstarted unstarted (r .bytes) file unstarted-not) in
+    (record { numbers = stayed; file = ap (λ (n : List ℕ). held n (r .bytes)) (stayed ∙ sym (s .numbers)) ∙ s .file }, tt)
+led (since f k) h r s (advance file) = advanced-led (same f file) f k h r s file refl
+led none h r s ask = (s, h)
+led (since f k) h r s ask = (s, h)
 
 -- and a list of them
-pub followed : (c : Course) → Known c → (os : List Operation) → SameCase c os → (performed (numbersAt c) os ≡ numbersAt (courseOf c os)) × Known (courseOf c os)
-followed c h [] d = (refl, h)
-followed c h (o ∷ os) d =
-    let one = led c h o (d .0) in
-    let rest = followed (turned c o) (one .1) os (d .1) in
-    (ap (λ (n : List ℕ). performed n os) (one .0) ∙ rest .0, rest .1)
+pub followed : (c : Course) → Known c → (r : Lent) → Stands c r → (os : List Operation) → Stands (courseOf c os) (performed r os) × Known (courseOf c os)
+followed c h r s [] = (s, h)
+followed c h r s (o ∷ os) =
+    let one = led c h r s o in
+    followed (turned c o) (one .1) (lentAfter r o) (one .0) os

@@ -12,6 +12,7 @@ use Rattle.rules.specs.Problem.{problemIn}
 use Rattle.rules.specs.Bisection.{greatestOutputs}
 use Rattle.rules.specs.Calls.{caseVerdict}
 use Rattle.rules.specs.declared.Refusal.{Refusal}
+use Rattle.rules.specs.declared.Refusal.the-variants.{CaseChanged}
 use Rattle.rules.specs.declared.Verdict.{Verdict}
 use Rattle.rules.proofs.Demand3.{case-accepted}
 use Rattle.rules.proofs.Economics.Solvable.{solvable-covers}
@@ -22,7 +23,7 @@ use Rattle.stepping.specs.declared.Started.{Started}
 use Rattle.stepping.specs.declared.Advanced.{Advanced}
 use Rattle.stepping.specs.declared.State.{State}
 use Rattle.stepping.specs.declared.Asked.{Asked}
-use Rattle.stepping.specs.Runs.{Run, runIn, numbersOf, begun, runFrom, startEnds, started, evaluated, stateTold, advanceEnds, advancedBy, asked}
+use Rattle.stepping.specs.Runs.{Run, runIn, numbersOf, begun, held, same, runFrom, startEnds, started, evaluated, stateTold, advanceEnds, advancedBy, asked}
 use Rattle.stepping.specs.Contracts.{runOf, Evaluates}
 
 -- the greatest outputs cover
@@ -30,47 +31,52 @@ pub first-covers : {file coefficients ends ranges outputs : List ℕ} {n t c w :
 unfolding greatestOutputs
 first-covers {file} f = omega (arith, solvable-covers (problemIn file) (case-accepted file (f .accepted) .1), greatest-held f .net, holding f .demanded)
 
-module _ (numbers file : List ℕ) where
+module _ (numbers bytes file : List ℕ) where
   -- ---- start
 
-  pub start-refused : (r : Refusal) → caseVerdict file ≡ Verdict.Refused r → started numbers file ≡ record { answer = Started.Refused r; numbers = numbers }
+  pub start-refused : (r : Refusal) → caseVerdict file ≡ Verdict.Refused r → started numbers bytes file ≡ record { answer = Started.Refused r; numbers = numbers; bytes = bytes }
   unfolding started startEnds
   start-refused r e = rw e
 
-  pub start-begun : {coefficients ends ranges outputs : List ℕ} {n t c w : ℕ} → First file coefficients ends ranges outputs n t c w → {first : List ℕ} → first ≡ over (take n outputs) (replicate 32 0) → {after : List ℕ} → after ≡ numbersOf (runOf (record { finished = 0; evaluations = 0; low = 0; cost = c; surplus = w - t; floor = 0; count = n; outputs = first })) → started numbers file ≡ record { answer = Started.Begun; numbers = after }
+  pub start-begun : {coefficients ends ranges outputs : List ℕ} {n t c w : ℕ} → First file coefficients ends ranges outputs n t c w → {first : List ℕ} → first ≡ over (take n outputs) (replicate 32 0) → {after : List ℕ} → after ≡ numbersOf (runOf (record { finished = 0; evaluations = 0; low = 0; cost = c; surplus = w - t; floor = 0; count = n; length = length file; outputs = first })) → {copied : List ℕ} → copied ≡ over file bytes → started numbers bytes file ≡ record { answer = Started.Begun; numbers = after; bytes = copied }
   unfolding started startEnds runFrom
-  start-begun {outputs = outputs} {n} {t} f e o =
+  start-begun {outputs = outputs} {n} {t} f e o z =
       let h = holding f in
       let g = greatest-held f in
       let same : take n outputs ≡ greatestOutputs (problemIn file) = ap (λ (k : ℕ). take k outputs) (sym (h .problem .count)) ∙ g .places in
-      rw (f .accepted, o, e, same, g .cost, g .net, h .demanded, ← h .problem .count)
+      rw (f .accepted, o, z, e, same, g .cost, g .net, h .demanded, ← h .problem .count)
 
   -- ---- advance
 
-  pub advance-unstarted : begun (runIn numbers) ≡ false → advancedBy numbers file ≡ record { answer = Advanced.NotStarted; numbers = numbers }
+  pub advance-unstarted : begun (runIn numbers) ≡ false → advancedBy numbers bytes file ≡ record { answer = Advanced.NotStarted; numbers = numbers }
   unfolding advancedBy
   advance-unstarted e = rw e
 
-  module _ (b : begun (runIn numbers) ≡ true) where
-    pub advance-refused : (r : Refusal) → caseVerdict file ≡ Verdict.Refused r → advancedBy numbers file ≡ record { answer = Advanced.Refused r; numbers = numbers }
+  -- other bytes than those held
+  pub advance-changed : begun (runIn numbers) ≡ true → same (held numbers bytes) file ≡ false → advancedBy numbers bytes file ≡ record { answer = Advanced.Refused CaseChanged; numbers = numbers }
+  unfolding advancedBy
+  advance-changed b e = rw (b, e)
+
+  module _ (b : begun (runIn numbers) ≡ true) (h : same (held numbers bytes) file ≡ true) where
+    pub advance-refused : (r : Refusal) → caseVerdict file ≡ Verdict.Refused r → advancedBy numbers bytes file ≡ record { answer = Advanced.Refused r; numbers = numbers }
     unfolding advancedBy advanceEnds
-    advance-refused r e = rw (b, e)
+    advance-refused r e = rw (b, h, e)
 
     module _ (a : caseVerdict file ≡ Verdict.Accepted) where
-      pub advance-finished : runIn numbers .finished ≡ 1 → advancedBy numbers file ≡ record { answer = Advanced.Finished; numbers = numbers }
+      pub advance-finished : runIn numbers .finished ≡ 1 → advancedBy numbers bytes file ≡ record { answer = Advanced.Finished; numbers = numbers }
       unfolding advancedBy advanceEnds
-      advance-finished e = rw (b, a, eq-eqb (runIn numbers .finished) 1 e)
+      advance-finished e = rw (b, h, a, eq-eqb (runIn numbers .finished) 1 e)
 
       -- one evaluation more
       module _ (u : runIn numbers .finished ≡ 1 → ⊥) {next : Run} (e : next ≡ evaluated (problemIn file) (runIn numbers)) {after : List ℕ} (w : after ≡ numbersOf next) where
-        pub advance-made : advancedBy numbers file ≡ record { answer = stateTold (next .finished); numbers = after }
+        pub advance-made : advancedBy numbers bytes file ≡ record { answer = stateTold (next .finished); numbers = after }
         unfolding advancedBy advanceEnds
-        advance-made = rw (b, a, ne-eqb (runIn numbers .finished) 1 u, w, e)
+        advance-made = rw (b, h, a, ne-eqb (runIn numbers .finished) 1 u, w, e)
 
-        pub advance-last : next .finished ≡ 1 → advancedBy numbers file ≡ record { answer = Advanced.Finished; numbers = after }
+        pub advance-last : next .finished ≡ 1 → advancedBy numbers bytes file ≡ record { answer = Advanced.Finished; numbers = after }
         advance-last f = advance-made ∙ rw (eq-eqb (next .finished) 1 f)
 
-        pub advance-more : (next .finished ≡ 1 → ⊥) → advancedBy numbers file ≡ record { answer = Advanced.Unfinished; numbers = after }
+        pub advance-more : (next .finished ≡ 1 → ⊥) → advancedBy numbers bytes file ≡ record { answer = Advanced.Unfinished; numbers = after }
         advance-more f = advance-made ∙ rw (ne-eqb (next .finished) 1 f)
 
 -- ---- ask

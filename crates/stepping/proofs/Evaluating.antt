@@ -79,8 +79,8 @@ pub from-start : {H : Problem → Type 0} {n w : ℕ} {z : ℤ} {before trace : 
 from-start {H} {n} {w} {z} {before} {trace} {r} k t e i s = subst (λ (x : ℤ). SearchesFrom H n (stateOf k t x (widthAt (k .evaluations))) before r trace) e (subst (λ (x : ℕ). SearchesFrom H n (stateOf k t z x) before r trace) i s)
 
 -- the numbers of a run whose search stands so
-abbrev pub numbersFrom : code-state.SearchState → ℕ → ℕ → Numbers
-numbersFrom r n t = record { finished = flag (eqb (r .width) 0); evaluations = r .evaluations; low = r .low; cost = r .best .cost; surplus = r .best .net - t; floor = natural (r .floor); count = n; outputs = r .best .outputs }
+abbrev pub numbersFrom : code-state.SearchState → ℕ → ℕ → ℕ → Numbers
+numbersFrom r n t l = record { finished = flag (eqb (r .width) 0); evaluations = r .evaluations; low = r .low; cost = r .best .cost; surplus = r .best .net - t; floor = natural (r .floor); count = n; length = l; outputs = r .best .outputs }
 
 module _ (k : Numbers) (f : Fitting (runOf k)) (u : k .finished ≡ 1 → ⊥) where
   at : At (stageOf (runOf k)) (k .low) (widthAt (k .evaluations)) (k .evaluations)
@@ -156,7 +156,7 @@ module _ (k : Numbers) (f : Fitting (runOf k)) (u : k .finished ≡ 1 → ⊥) w
     lowered : r .low ≡ lowOf after
     lowered = ends-low (r .low) (r .width) (r .evaluations) (w .reached .stage) (w .reached .numbers) (w .low) ∙ ap lowOf (sym (held .staged))
 
-    by-cover : Dec (target q ≤ net taken) → (t ≤ r .best .net) × (runOf (numbersFrom r n t) ≡ evaluated q (runOf k))
+    by-cover : Dec (target q ≤ net taken) → (t ≤ r .best .net) × (runOf (numbersFrom r n t (k .length)) ≡ evaluated q (runOf k))
     unfolding evaluated
     by-cover (yes c) =
         let b = covered c in (
@@ -170,6 +170,7 @@ module _ (k : Numbers) (f : Fitting (runOf k)) (u : k .finished ≡ 1 → ⊥) w
             surplus = ap₂ (λ (x y : ℕ). x - y) (b .0 .net) (h .demanded) i;
             floor = natural-floor i;
             count = sym (h .problem .count) i;
+            length = k .length;
             outputs = (all-places q n taken (r .best .outputs) (sumsOf (r .best)) (h .problem .count) (b .0) (b .1) ∙ ap (λ (j : ℕ). taken ++ drop j (replicate 32 0)) (sym length-taken)) i;
           }),
         )
@@ -186,6 +187,7 @@ module _ (k : Numbers) (f : Fitting (runOf k)) (u : k .finished ≡ 1 → ⊥) w
             surplus = (ap (λ (x : ℕ). x - t) same ∙ sub-back) i;
             floor = natural-floor i;
             count = sym (h .problem .count) i;
+            length = k .length;
             outputs = b i .outputs;
           }),
         )
@@ -193,5 +195,5 @@ module _ (k : Numbers) (f : Fitting (runOf k)) (u : k .finished ≡ 1 → ⊥) w
         sub-back : k .surplus + t - t ≡ k .surplus
         sub-back = omega arith
 
-    pub evaluates : (t ≤ r .best .net) × (runOf (numbersFrom r n t) ≡ evaluated q (runOf k))
+    pub evaluates : (t ≤ r .best .net) × (runOf (numbersFrom r n t (k .length)) ≡ evaluated q (runOf k))
     evaluates = by-cover (decLe (target q) (net taken))

@@ -25,6 +25,7 @@ pub record Fitting (r : Run) : Type 0 where
   pub floor : r .floor ≤ 35200000000000
   pub some : 0 < r .count
   pub few : r .count ≤ 32
+  pub length : r .length ≤ 1608
   pub outputs : outputsFit (r .outputs) ≡ true
 
 pub fitting : (r : Run) → begun r ≡ true → Fitting r
@@ -32,11 +33,12 @@ unfolding begun
 fitting r e =
     let a = and-true (eqb (r .started) 1) _ .0 e in
     let b = and-true (stageFits (r .finished) (r .evaluations) (r .low)) _ .0 (a .1) in
-    let c = and-true (amountsFit (r .cost) (r .surplus) (r .floor) (r .count)) (outputsFit (r .outputs)) .0 (b .1) in
+    let c = and-true (amountsFit (r .cost) (r .surplus) (r .floor) (r .count) (r .length)) (outputsFit (r .outputs)) .0 (b .1) in
     let cost = and-true (leb (r .cost) 35200000000000) _ .0 (c .0) in
     let surplus = and-true (leb (r .surplus) 35200000000000) _ .0 (cost .1) in
     let floor = and-true (leb (r .floor) 35200000000000) _ .0 (surplus .1) in
-    let count = and-true (ltb 0 (r .count)) (leb (r .count) 32) .0 (floor .1) in
+    let some = and-true (ltb 0 (r .count)) _ .0 (floor .1) in
+    let count = and-true (leb (r .count) 32) (leb (r .length) 1608) .0 (some .1) in
     record {
       started = eqb-true (r .started) 1 (a .0);
       stage = b .0;
@@ -44,8 +46,9 @@ fitting r e =
       cost = leb-true (r .cost) 35200000000000 (cost .0);
       surplus = leb-true (r .surplus) 35200000000000 (surplus .0);
       floor = leb-true (r .floor) 35200000000000 (floor .0);
-      some = ltb-true 0 (r .count) (count .0);
-      few = leb-true (r .count) 32 (count .1);
+      some = ltb-true 0 (r .count) (some .0);
+      few = leb-true (r .count) 32 (count .0);
+      length = leb-true (r .length) 1608 (count .1);
       outputs = c .1;
     }
 
@@ -62,11 +65,11 @@ module _ (r : Run) where
     stage-unfit e = rw (eq-eqb (r .started) 1 one, e)
 
     module _ (stage : stageFits (r .finished) (r .evaluations) (r .low) ≡ true) where
-      pub amounts-unfit : amountsFit (r .cost) (r .surplus) (r .floor) (r .count) ≡ false → begun r ≡ false
+      pub amounts-unfit : amountsFit (r .cost) (r .surplus) (r .floor) (r .count) (r .length) ≡ false → begun r ≡ false
       unfolding begun
       amounts-unfit e = rw (eq-eqb (r .started) 1 one, stage, e)
 
-      pub outputs-decide : amountsFit (r .cost) (r .surplus) (r .floor) (r .count) ≡ true → begun r ≡ outputsFit (r .outputs)
+      pub outputs-decide : amountsFit (r .cost) (r .surplus) (r .floor) (r .count) (r .length) ≡ true → begun r ≡ outputsFit (r .outputs)
       unfolding begun
       outputs-decide e = rw (eq-eqb (r .started) 1 one, stage, e)
 

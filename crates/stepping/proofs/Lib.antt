@@ -1,9 +1,11 @@
 pub mod Widths
 pub mod Copying
-pub mod Eight
+pub mod Nine
+pub mod Comparing
 pub mod Fitting
 pub mod Evaluating
 pub mod Endings
 pub mod Progress
 pub mod Course
+pub mod Gaps
 pub mod Claims

@@ -9,7 +9,7 @@ use Rattle.stepping.specs.declared.numbers.Numbers.{Numbers}
 use Rattle.stepping.specs.Runs.{Run, begun, evaluated}
 
 abbrev pub runOf : Numbers → Run
-runOf n = record { started = 1; finished = n .finished; evaluations = n .evaluations; low = n .low; cost = n .cost; surplus = n .surplus; floor = n .floor; count = n .count; outputs = n .outputs }
+runOf n = record { started = 1; finished = n .finished; evaluations = n .evaluations; low = n .low; cost = n .cost; surplus = n .surplus; floor = n .floor; count = n .count; length = n .length; outputs = n .outputs }
 
 -- an unfinished run, and the arrays of a site
 pub record Advanceable (before : Numbers) (coefficients ends ranges : List ℕ) (n t : ℕ) : Type 0 where

@@ -1,4 +1,4 @@
 pub mod Runs
 pub mod Contracts
-pub mod Cases
 pub mod Claims
+pub mod Cases

@@ -1,10 +1,10 @@
--- Section 22 of docs/SPECIFICATION.md: a search that its caller advances, one evaluation at a time. What start, advance and ask answer and leave, of every run and every file.
--- A run is the state of such a search between two calls: 40 numbers in an array that the caller lends.
+-- Sections 22 and 23 of docs/SPECIFICATION.md: a search that its caller advances, one evaluation at a time, and which holds its case. What start, advance and ask answer and leave, of every run and every file.
+-- A run is the state of such a search between two calls: 41 numbers and 1,608 bytes in two arrays that the caller lends.
 use Prim.Native.Nat.{ℕ, zero, suc, _+_, _-_, _*_, _/_, _^_, max}
 use mathlib.Core.Bool.{Bool, true, false, cond, _&&_, _||_}
 use mathlib.Core.List.{List, [], _∷_}
 use lib.Dec.{leb, eqb, ltb}
-use lib.ListN.{length, getD, drop, replicate}
+use lib.ListN.{length, getD, take, drop, replicate}
 use Rattle.rules.specs.Lists.{all, over}
 use Rattle.rules.specs.Numbers.{natural}
 use Rattle.rules.specs.Problem.{Problem, totalCost, totalNet, unitsOf, target, problemIn}
@@ -12,6 +12,7 @@ use Rattle.rules.specs.Choice.{selected, floor}
 use Rattle.rules.specs.Bisection.{greatestOutputs}
 use Rattle.rules.specs.Stages.{Stage, atZero, atTop, halving, finished, nextMultiplier, stageAfter}
 use Rattle.rules.specs.Calls.{caseVerdict}
+use Rattle.rules.specs.declared.Refusal.the-variants.{CaseChanged}
 use Rattle.rules.specs.declared.Verdict.{Verdict}
 use Rattle.stepping.specs.declared.Started.{Started}
 use Rattle.stepping.specs.declared.Advanced.{Advanced}
@@ -29,6 +30,7 @@ pub record Run : Type 0 where
   pub surplus : ℕ
   pub floor : ℕ
   pub count : ℕ
+  pub length : ℕ
   pub outputs : List ℕ
 
 abbrev pub runIn : List ℕ → Run
@@ -42,15 +44,16 @@ runIn numbers =
       surplus = getD numbers 5 0;
       floor = getD numbers 6 0;
       count = getD numbers 7 0;
-      outputs = drop 8 numbers;
+      length = getD numbers 8 0;
+      outputs = drop 9 numbers;
     }
 
 abbrev pub numbersOf : Run → List ℕ
-numbersOf r = r .started ∷ r .finished ∷ r .evaluations ∷ r .low ∷ r .cost ∷ r .surplus ∷ r .floor ∷ r .count ∷ r .outputs
+numbersOf r = r .started ∷ r .finished ∷ r .evaluations ∷ r .low ∷ r .cost ∷ r .surplus ∷ r .floor ∷ r .count ∷ r .length ∷ r .outputs
 
 -- no start has made it: zeros
 abbrev pub unstarted : List ℕ
-unstarted = replicate 40 0
+unstarted = replicate 41 0
 
 -- ---- (rule 22.3) where the search of a run stands: by the evaluations made, none, one, or from two on the halving; unless it is finished
 
@@ -72,15 +75,26 @@ widthAt evaluations = 131072 / 2 ^ evaluations
 abbrev pub stageFits : ℕ → ℕ → ℕ → Bool
 stageFits f e low = leb e 18 && (eqb f 1 || (eqb f 0 && (ltb e 18 && (eqb low 0 || leb (low + 2 * widthAt e) 65536))))
 
-abbrev pub amountsFit : ℕ → ℕ → ℕ → ℕ → Bool
-amountsFit c s f n = leb c 35200000000000 && (leb s 35200000000000 && (leb f 35200000000000 && (ltb 0 n && leb n 32)))
+abbrev pub amountsFit : ℕ → ℕ → ℕ → ℕ → ℕ → Bool
+amountsFit c s f n l = leb c 35200000000000 && (leb s 35200000000000 && (leb f 35200000000000 && (ltb 0 n && (leb n 32 && leb l 1608))))
 
 abbrev pub outputsFit : List ℕ → Bool
 outputsFit ps = all (λ p. leb p 10000) ps
 
 unfoldable pub begun : Run → Bool
 begun r =
-    eqb (r .started) 1 && (stageFits (r .finished) (r .evaluations) (r .low) && (amountsFit (r .cost) (r .surplus) (r .floor) (r .count) && outputsFit (r .outputs)))
+    eqb (r .started) 1 && (stageFits (r .finished) (r .evaluations) (r .low) && (amountsFit (r .cost) (r .surplus) (r .floor) (r .count) (r .length) && outputsFit (r .outputs)))
+
+-- ---- (rules 23.1, 23.2) the file that a run holds: the first `length` of its bytes
+
+abbrev pub held : List ℕ → List ℕ → List ℕ
+held numbers bytes = take (runIn numbers .length) bytes
+
+abbrev pub same : List ℕ → List ℕ → Bool
+same [] [] = true
+same [] (y ∷ ys) = false
+same (x ∷ xs) [] = false
+same (x ∷ xs) (y ∷ ys) = eqb x y && same xs ys
 
 abbrev pub flag : Bool → ℕ
 flag b = cond b 1 0
@@ -103,9 +117,10 @@ lowOf finished = 0
 pub record StartResult : Type 0 where
   pub answer : Started
   pub numbers : List ℕ
+  pub bytes : List ℕ
 
-unfoldable pub runFrom : Problem → Run
-runFrom q =
+unfoldable pub runFrom : Problem → ℕ → Run
+runFrom q l =
     let ps = greatestOutputs q in
     record {
       started = 1;
@@ -116,15 +131,17 @@ runFrom q =
       surplus = totalNet (unitsOf q) ps - target q;
       floor = 0;
       count = length (q .offers);
+      length = l;
       outputs = over ps (replicate 32 0);
     }
 
-unfoldable pub startEnds : Verdict → List ℕ → List ℕ → StartResult
-startEnds (Verdict.Refused r) numbers file = record { answer = Started.Refused r; numbers = numbers }
-startEnds Verdict.Accepted numbers file = record { answer = Started.Begun; numbers = numbersOf (runFrom (problemIn file)) }
+unfoldable pub startEnds : Verdict → List ℕ → List ℕ → List ℕ → StartResult
+startEnds (Verdict.Refused r) numbers bytes file = record { answer = Started.Refused r; numbers = numbers; bytes = bytes }
+startEnds Verdict.Accepted numbers bytes file = record { answer = Started.Begun; numbers = numbersOf (runFrom (problemIn file) (length file)); bytes = over file bytes }
 
-unfoldable pub started : List ℕ → List ℕ → StartResult
-started numbers file = startEnds (caseVerdict file) numbers file
+-- (rule 23.1) an accepted start takes the file's bytes
+unfoldable pub started : List ℕ → List ℕ → List ℕ → StartResult
+started numbers bytes file = startEnds (caseVerdict file) numbers bytes file
 
 -- ---- (rule 22.6) advance: one evaluation. What it takes is the best where it covers; its floor is the greatest where it is greater
 
@@ -144,6 +161,7 @@ evaluated q r =
       surplus = cond covers (w - target q) (r .surplus);
       floor = max (r .floor) (natural (floor m q));
       count = length (q .offers);
+      length = r .length;
       outputs = cond covers (over ps (replicate 32 0)) (r .outputs);
     }
 
@@ -161,8 +179,12 @@ advanceEnds Verdict.Accepted numbers file =
     let next = evaluated (problemIn file) (runIn numbers) in
     cond (eqb (runIn numbers .finished) 1) (record { answer = Advanced.Finished; numbers = numbers }) (record { answer = stateTold (next .finished); numbers = numbersOf next })
 
-unfoldable pub advancedBy : List ℕ → List ℕ → AdvanceResult
-advancedBy numbers file = cond (begun (runIn numbers)) (advanceEnds (caseVerdict file) numbers file) (record { answer = Advanced.NotStarted; numbers = numbers })
+-- (rule 23.2) other bytes than those of the start are refused ahead of every other check
+unfoldable pub advancedBy : List ℕ → List ℕ → List ℕ → AdvanceResult
+advancedBy numbers bytes file =
+    let notStarted : AdvanceResult = record { answer = Advanced.NotStarted; numbers = numbers } in
+    let changed : AdvanceResult = record { answer = Advanced.Refused CaseChanged; numbers = numbers } in
+    cond (begun (runIn numbers)) (cond (same (held numbers bytes) file) (advanceEnds (caseVerdict file) numbers file) changed) notStarted
 
 -- ---- (rule 22.7) ask: the best so far, its cost and its distance above the greatest floor so far
 
@@ -185,20 +207,25 @@ pub data Answer : Type 0 where
   advances : Advanced → Answer
   asks : Asked → Answer
 
-abbrev pub answerTo : List ℕ → Operation → Answer
-answerTo numbers (start file) = starts (started numbers file .answer)
-answerTo numbers (advance file) = advances (advancedBy numbers file .answer)
-answerTo numbers ask = asks (asked numbers)
+-- (an advance and an ask leave the bytes as they are)
+pub record Lent : Type 0 where
+  pub numbers : List ℕ
+  pub bytes : List ℕ
 
-abbrev pub numbersAfter : List ℕ → Operation → List ℕ
-numbersAfter numbers (start file) = started numbers file .numbers
-numbersAfter numbers (advance file) = advancedBy numbers file .numbers
-numbersAfter numbers ask = numbers
+abbrev pub answerTo : Lent → Operation → Answer
+answerTo r (start file) = starts (started (r .numbers) (r .bytes) file .answer)
+answerTo r (advance file) = advances (advancedBy (r .numbers) (r .bytes) file .answer)
+answerTo r ask = asks (asked (r .numbers))
 
-abbrev pub answersOf : List ℕ → List Operation → List Answer
-answersOf numbers [] = []
-answersOf numbers (o ∷ os) = answerTo numbers o ∷ answersOf (numbersAfter numbers o) os
+abbrev pub lentAfter : Lent → Operation → Lent
+lentAfter r (start file) = let s = started (r .numbers) (r .bytes) file in record { numbers = s .numbers; bytes = s .bytes }
+lentAfter r (advance file) = record { numbers = advancedBy (r .numbers) (r .bytes) file .numbers; bytes = r .bytes }
+lentAfter r ask = r
 
-abbrev pub performed : List ℕ → List Operation → List ℕ
-performed numbers [] = numbers
-performed numbers (o ∷ os) = performed (numbersAfter numbers o) os
+abbrev pub answersOf : Lent → List Operation → List Answer
+answersOf r [] = []
+answersOf r (o ∷ os) = answerTo r o ∷ answersOf (lentAfter r o) os
+
+abbrev pub performed : Lent → List Operation → Lent
+performed r [] = r
+performed r (o ∷ os) = performed (lentAfter r o) os

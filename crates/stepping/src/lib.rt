@@ -1,12 +1,16 @@
-// A search that its caller advances, one evaluation at a time, and asks in between (section 22 of docs/SPECIFICATION.md). A run is 40
-// numbers that the caller lends: started, finished, evaluations, low, cost, surplus, floor, count, and 32 outputs. A run whose
-// numbers do not fit together is not started; an advance checks and decodes the case anew, and nothing is decoded from the run.
+// A search that its caller advances, one evaluation at a time, and asks in between, and which holds its case (sections 22 and 23 of
+// docs/SPECIFICATION.md). A run is 41 numbers that the caller lends: started, finished, evaluations, low, cost, surplus, floor, count,
+// length, and 32 outputs; and 1,608 bytes, of which the first `length` are the file of its last accepted start. A run whose numbers
+// do not fit together is not started; an advance checks and decodes the case anew, and nothing is decoded from the run.
 ghost use mathlib.Core.Path.{_≡_};
 ghost use mathlib.Core.Bool.{cond};
 ghost use lib.Dec.{eqb};
 ghost use Prim.Native.Nat.{_-_};
 ghost use Rattle.stepping.specs.declared.State.{State};
-ghost use Rattle.stepping.specs.Runs.{asked, started, advancedBy};
+ghost use Prim.Native.Nat.{_≤_};
+ghost use lib.ListN.{take};
+ghost use lib.ListN as lists;
+ghost use Rattle.stepping.specs.Runs.{asked, same, started, advancedBy};
 ghost use Rattle.stepping.specs.Contracts.{Advanceable, Evaluates};
 
 mod numbers;
@@ -49,9 +53,9 @@ pub struct Asked {
     pub outputs: [u16; 32],
 }
 
-// Starts a run of the case: the greatest outputs are its best so far; or refuses and leaves the run as it was.
-pub fn start(run: &mut [u64; 40], file: &[u8]) -> Started
-    ensures { λ r. ⌜ started (now (run .entry)) (now (file .entry)) ≡ record { answer = r; numbers = now (run .exit) } ⌝ }
+// Starts a run of the case: the greatest outputs are its best so far, and it holds the file; or refuses and leaves the run as it was.
+pub fn start(run: &mut [u64; 41], held: &mut [u8; 1608], file: &[u8]) -> Started
+    ensures { λ r. ⌜ started (now (run .entry)) (now (held .entry)) (now (file .entry)) ≡ record { answer = r; numbers = now (run .exit); bytes = now (held .exit) } ⌝ }
 {
     let mut coefficients = [0u64; 160];
     let mut ends = [0u16; 384];
@@ -83,9 +87,11 @@ pub fn start(run: &mut [u64; 40], file: &[u8]) -> Started
                     surplus: net - target,
                     floor: 0,
                     count: count as u64,
+                    length: file.len() as u64,
                     outputs,
                 },
             );
+            bytes::copy(file, held);
             Started::Begun
         }
     }
@@ -109,6 +115,7 @@ fn evaluate_next(
         cost,
         surplus,
         floor,
+        length,
         outputs,
         ..
     } = before;
@@ -143,17 +150,39 @@ fn evaluate_next(
         surplus: net - target,
         floor: floor as u64,
         count: n as u64,
+        length,
         outputs,
     }
 }
 
-// Makes the next evaluation of a run of the case and tells where the run then stands; a run that is not started, one that is finished
-// and one whose case is refused stay as they were.
-pub fn advance(run: &mut [u64; 40], file: &[u8]) -> Advanced
-    ensures { λ r. ⌜ advancedBy (now (run .entry)) (now (file .entry)) ≡ record { answer = r; numbers = now (run .exit) } ⌝ }
+// Whether the first `length` bytes held are those of the file.
+fn same_bytes(held: &[u8], length: usize, file: &[u8]) -> bool
+    requires { ⌜ length ≤ lists.length (now held) ⌝ }
+    ensures { λ r. ⌜ r ≡ same (take length (now (held .entry))) (now (file .entry)) ⌝ }
+{
+    if file.len() != length {
+        return false;
+    }
+    let mut different: usize = 0;
+    let mut i = 0;
+    while i < length {
+        different += (held[i] != file[i]) as usize;
+        i += 1;
+    }
+    different == 0
+}
+
+// Makes the next evaluation of a run and tells where the run then stands, if the file is the one that it holds; a run that is not
+// started, one that is finished and one whose case is refused stay as they were.
+pub fn advance(run: &mut [u64; 41], held: &[u8; 1608], file: &[u8]) -> Advanced
+    ensures { λ r. ⌜ advancedBy (now (run .entry)) (now (held .entry)) (now (file .entry)) ≡ record { answer = r; numbers = now (run .exit) } ⌝ }
 {
     if !numbers::is_begun(run) {
         return Advanced::NotStarted;
+    }
+    let before = numbers::read(run);
+    if !same_bytes(held, before.length as usize, file) {
+        return Advanced::Refused(Refusal::CaseChanged);
     }
     let mut coefficients = [0u64; 160];
     let mut ends = [0u16; 384];
@@ -169,7 +198,6 @@ pub fn advance(run: &mut [u64; 40], file: &[u8]) -> Advanced
     match first {
         FirstBest::Refused(r) => Advanced::Refused(r),
         FirstBest::Found { count, target, .. } => {
-            let before = numbers::read(run);
             if before.finished == 1 {
                 return Advanced::Finished;
             }
@@ -203,7 +231,7 @@ fn gap_of(cost: u64, floor: u64) -> u64
 }
 
 // Tells what a run has so far.
-pub fn ask(run: &[u64; 40]) -> Asked
+pub fn ask(run: &[u64; 41]) -> Asked
     ensures { λ r. ⌜ r ≡ asked (now (run .entry)) ⌝ }
 {
     if !numbers::is_begun(run) {

@@ -1,4 +1,4 @@
-// A run's 40 numbers: whether they fit together, and a started run read from them and written to them.
+// A run's 41 numbers: whether they fit together, and a started run read from them and written to them.
 ghost use mathlib.Core.Path.{_≡_};
 ghost use mathlib.Core.Bool.{true};
 ghost use Prim.Native.Nat.{_≤_};
@@ -16,6 +16,7 @@ pub struct Numbers {
     pub surplus: u64,
     pub floor: u64,
     pub count: u64,
+    pub length: u64,
     pub outputs: [u16; 32],
 }
 
@@ -52,9 +53,9 @@ fn stage_fits(finished: u64, evaluations: u64, low: u64) -> bool
     low + 2 * width_at(evaluations) <= 65536
 }
 
-// Whether cost, surplus, floor and count are in range.
-fn amounts_fit(cost: u64, surplus: u64, floor: u64, count: u64) -> bool
-    ensures { λ r. ⌜ r ≡ amountsFit cost surplus floor count ⌝ }
+// Whether cost, surplus, floor, count and length are in range.
+fn amounts_fit(cost: u64, surplus: u64, floor: u64, count: u64, length: u64) -> bool
+    ensures { λ r. ⌜ r ≡ amountsFit cost surplus floor count length ⌝ }
 {
     if cost > 35200000000000 {
         return false;
@@ -68,7 +69,10 @@ fn amounts_fit(cost: u64, surplus: u64, floor: u64, count: u64) -> bool
     if count == 0 {
         return false;
     }
-    count <= 32
+    if count > 32 {
+        return false;
+    }
+    length <= 1608
 }
 
 // Whether each output is in range.
@@ -87,7 +91,7 @@ fn outputs_fit(outputs: &[u64]) -> bool
 
 // Whether a run counts as started.
 pub fn is_begun(run: &[u64]) -> bool
-    requires { ⌜ length (now run) ≡ 40 ⌝ }
+    requires { ⌜ length (now run) ≡ 41 ⌝ }
     ensures { λ r. ⌜ r ≡ begun (runIn (now (run .entry))) ⌝ }
 {
     if run[0] != 1 {
@@ -96,10 +100,10 @@ pub fn is_begun(run: &[u64]) -> bool
     if !stage_fits(run[1], run[2], run[3]) {
         return false;
     }
-    if !amounts_fit(run[4], run[5], run[6], run[7]) {
+    if !amounts_fit(run[4], run[5], run[6], run[7], run[8]) {
         return false;
     }
-    outputs_fit(&run[8..])
+    outputs_fit(&run[9..])
 }
 
 // A list of 32 outputs in range as an array.
@@ -132,10 +136,10 @@ pub fn first_outputs(outputs: [u16; 32], n: usize) -> [u16; 32]
 
 // The numbers of a run that counts as started.
 pub fn read(run: &[u64]) -> Numbers
-    requires { ⌜ (length (now run) ≡ 40) × (begun (runIn (now run)) ≡ true) ⌝ }
+    requires { ⌜ (length (now run) ≡ 41) × (begun (runIn (now run)) ≡ true) ⌝ }
     ensures { λ r. ⌜ runOf r ≡ runIn (now (run .entry)) ⌝ }
 {
-    let outputs = outputs_in(&run[8..]);
+    let outputs = outputs_in(&run[9..]);
     Numbers {
         finished: run[1],
         evaluations: run[2],
@@ -144,6 +148,7 @@ pub fn read(run: &[u64]) -> Numbers
         surplus: run[5],
         floor: run[6],
         count: run[7],
+        length: run[8],
         outputs,
     }
 }
@@ -162,7 +167,7 @@ fn write_outputs(list: &mut [u64], outputs: [u16; 32])
 
 // Writes a started run with these numbers.
 pub fn write(run: &mut [u64], n: Numbers)
-    requires { ⌜ length (now run) ≡ 40 ⌝ }
+    requires { ⌜ length (now run) ≡ 41 ⌝ }
     ensures { λ _. ⌜ now (run .exit) ≡ numbersOf (runOf n) ⌝ }
 {
     let Numbers {
@@ -173,6 +178,7 @@ pub fn write(run: &mut [u64], n: Numbers)
         surplus,
         floor,
         count,
+        length,
         outputs,
     } = n;
     run[0] = 1;
@@ -183,5 +189,6 @@ pub fn write(run: &mut [u64], n: Numbers)
     run[5] = surplus;
     run[6] = floor;
     run[7] = count;
-    write_outputs(&mut run[8..], outputs);
+    run[8] = length;
+    write_outputs(&mut run[9..], outputs);
 }

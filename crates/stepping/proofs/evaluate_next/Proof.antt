@@ -24,23 +24,23 @@ use Rattle.stepping.proofs.evaluate_next.Tie as tie
 known : (s : tie.Start) → Fitting (runOf (s .args .before))
 known s = fitting (runOf (s .args .before)) (s .pre .begins)
 
-add-t24 : tie.Need-add-t24
-add-t24 c = let k = known (c .before) in omega (arith, k .evaluations, k .surplus, k .floor, target-small (c .before .pre .searchable))
-
-cast-t25 : tie.Need-cast-t25
-cast-t25 c = let k = known (c .before) in omega (arith, k .evaluations, k .surplus, k .floor, target-small (c .before .pre .searchable))
+add-t25 : tie.Need-add-t25
+add-t25 c = let k = known (c .before) in omega (arith, k .evaluations, k .surplus, k .floor, target-small (c .before .pre .searchable))
 
 cast-t26 : tie.Need-cast-t26
 cast-t26 c = let k = known (c .before) in omega (arith, k .evaluations, k .surplus, k .floor, target-small (c .before .pre .searchable))
 
+cast-t27 : tie.Need-cast-t27
+cast-t27 c = let k = known (c .before) in omega (arith, k .evaluations, k .surplus, k .floor, target-small (c .before .pre .searchable))
+
 width-at-requires : tie.Need-width-at-requires
 width-at-requires c κs = known (c .before) .evaluations
 
-cast-t27 : tie.Need-cast-t27
-cast-t27 c = let k = known (c .before .before) in omega (arith, k .evaluations, k .surplus, k .floor, target-small (c .before .before .pre .searchable))
+cast-t28 : tie.Need-cast-t28
+cast-t28 c = let k = known (c .before .before) in omega (arith, k .evaluations, k .surplus, k .floor, target-small (c .before .before .pre .searchable))
 
-add-t28 : tie.Need-add-t28
-add-t28 c = let k = known (c .before .before) in omega (arith, k .evaluations, k .surplus, k .floor, target-small (c .before .before .pre .searchable))
+add-t29 : tie.Need-add-t29
+add-t29 c = let k = known (c .before .before) in omega (arith, k .evaluations, k .surplus, k .floor, target-small (c .before .before .pre .searchable))
 
 slice-aggregate-search-from : tie.Need-slice-aggregate-search-from
 slice-aggregate-search-from c = search needs
@@ -65,29 +65,29 @@ floor-after : (c : tie.After-search-from) → toZ w64 (ofZ w64 (c .search-from .
 floor-after c = toZ-ofZ {w = w64} (floor-fits c)
 
 module _ (c : tie.After-search-from) (q : Problem) (h : let a = entry c .args in Holding (now (a .coefficients)) (now (a .ends)) (now (a .ranges)) (a .n) (a .target) q) where
-  evaluated-once : (entry c .args .target ≤ c .search-from .result .best .net) × (runOf (numbersFrom (c .search-from .result) (entry c .args .n) (entry c .args .target)) ≡ evaluated q (runOf (entry c .args .before)))
+  evaluated-once : (entry c .args .target ≤ c .search-from .result .best .net) × (runOf (numbersFrom (c .search-from .result) (entry c .args .n) (entry c .args .target) (entry c .args .before .length)) ≡ evaluated q (runOf (entry c .args .before)))
   evaluated-once = evaluates (entry c .args .before) (known (entry c)) (entry c .pre .unfinished) (from-start (entry c .args .before) (entry c .args .target) (floor-before (entry c)) (c .before .before .width-at .ensures) (c .search-from .ensures)) q h
 
-cast-t24 : tie.Need-cast-t24
-cast-t24 c = search needs
+cast-t25 : tie.Need-cast-t25
+cast-t25 c = search needs
 
-cast-t33 : tie.Need-cast-t33
-cast-t33 c = search needs
+cast-t34 : tie.Need-cast-t34
+cast-t34 c = search needs
 
 -- from the last struct that is taken apart back to the search
 abbrev made : tie.After-outputs2 → tie.After-search-from
 made c = c .before .before .before .before
 
-sub-t34 : tie.Need-sub-t34
-sub-t34 c = let s = entry (made c) .pre .searchable in evaluated-once (made c) (s .problem) (s .holds) .0
+sub-t35 : tie.Need-sub-t35
+sub-t35 c = let s = entry (made c) .pre .searchable in evaluated-once (made c) (s .problem) (s .holds) .0
 
 not-negative : (c : tie.After-search-from) → c .search-from .result .floor ≡ pos (natural (c .search-from .result .floor))
 not-negative c =
     let s = entry c .pre .searchable in
     floor-kept (entry c .args .before) (known (entry c)) (entry c .pre .unfinished) (from-start (entry c .args .before) (entry c .args .target) (floor-before (entry c)) (c .before .before .width-at .ensures) (c .search-from .ensures)) (s .problem) (s .holds)
 
-cast-t35 : tie.Need-cast-t35
-cast-t35 c =
+cast-t36 : tie.Need-cast-t36
+cast-t36 c =
     let small : SFits w64 (pos (natural (made c .search-from .result .floor))) = subst (SFits w64) (not-negative (made c)) (floor-fits (made c)) in
     rw (floor-after (made c), not-negative (made c)) (tt, record { fits = omega (arith, small .sfits) })
 
@@ -105,16 +105,16 @@ pub evaluate-next-spec : {M : Type 1} → statement M
 evaluate-next-spec =
     tie.close
     (tie.spec
-    add-t24
-    cast-t25
+    add-t25
     cast-t26
-    width-at-requires
     cast-t27
-    add-t28
+    width-at-requires
+    cast-t28
+    add-t29
     slice-aggregate-search-from
     search-from-requires
-    cast-t24
-    cast-t33
-    sub-t34
-    cast-t35
+    cast-t25
+    cast-t34
+    sub-t35
+    cast-t36
     returns)

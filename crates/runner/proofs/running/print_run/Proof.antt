@@ -6,10 +6,10 @@ use Rattle.runner.proofs.running.print_run.Statement.{statement}
 use Rattle.runner.proofs.running.print_run.Tie as tie
 
 abbrev Inv-loop : tie.InvT-loop
-Inv-loop run i₀ t3 t4 i = i ≤ 40
+Inv-loop run i₀ t3 t4 i = i ≤ 41
 
 abbrev μ-loop : tie.MeasureT-loop
-μ-loop run i₀ t3 t4 i = 40 - i
+μ-loop run i₀ t3 t4 i = 41 - i
 
 loop-holds : tie.Need-loop-holds Inv-loop μ-loop
 loop-holds c = omega arith

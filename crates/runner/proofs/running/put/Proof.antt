@@ -7,7 +7,7 @@ use Rattle.runner.proofs.running.put.Statement.{statement}
 use Rattle.runner.proofs.running.put.Tie as tie
 
 abbrev Inv-loop : tie.InvT-loop
-Inv-loop given run₀ count i₀ run i = (count ≤ 40) × (8 * count ≤ length given)
+Inv-loop given run₀ count i₀ run i = (count ≤ 41) × (8 * count ≤ length given)
 
 abbrev μ-loop : tie.MeasureT-loop
 μ-loop given run₀ count i₀ run i = count - i

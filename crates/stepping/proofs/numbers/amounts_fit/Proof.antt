@@ -21,8 +21,25 @@ returns-4 c =
 
 returns-5 : tie.Need-returns-5
 returns-5 c =
-    let s = c .before .before .before .before in
-    rw (le-leb _ 35200000000000 (c .before .before .before .if1 .left), le-leb _ 35200000000000 (c .before .before .if2 .left), le-leb _ 35200000000000 (c .before .if3 .left), lt-ltb 0 (s .args .count) (omega (arith, c .if4 .left)))
+    let s = c .before .before .before .before .before in
+    rw (
+      le-leb _ 35200000000000 (c .before .before .before .before .if1 .left),
+      le-leb _ 35200000000000 (c .before .before .before .if2 .left),
+      le-leb _ 35200000000000 (c .before .before .if3 .left),
+      lt-ltb 0 (s .args .count) (omega (arith, c .before .if4 .left)),
+      lt-leb (s .args .count) 32 (c .if5 .taken),
+    )
+
+returns-6 : tie.Need-returns-6
+returns-6 c =
+    let s = c .before .before .before .before .before in
+    rw (
+      le-leb _ 35200000000000 (c .before .before .before .before .if1 .left),
+      le-leb _ 35200000000000 (c .before .before .before .if2 .left),
+      le-leb _ 35200000000000 (c .before .before .if3 .left),
+      lt-ltb 0 (s .args .count) (omega (arith, c .before .if4 .left)),
+      le-leb (s .args .count) 32 (c .if5 .left),
+    )
 
 pub amounts-fit-spec : {M : Type 1} → statement M
-amounts-fit-spec = tie.close (tie.spec returns returns-2 returns-3 returns-4 returns-5)
+amounts-fit-spec = tie.close (tie.spec returns returns-2 returns-3 returns-4 returns-5 returns-6)

@@ -28,12 +28,12 @@ abbrev staged : tie.Else2 → tie.Else1
 staged c = c .before .before .before .before .before
 
 abbrev ranged : tie.Else3 → tie.Else2
-ranged c = c .before .before .before .before .before .before
+ranged c = c .before .before .before .before .before .before .before
 
 stage-holds : (c : tie.Else2) → let r = run (staged c) in stageFits (r .finished) (r .evaluations) (r .low) ≡ true
 stage-holds c = sym (c .before .stage-fits .ensures) ∙ not-false _ (c .if2 .left)
 
-amounts-hold : (c : tie.Else3) → let r = run (staged (ranged c)) in amountsFit (r .cost) (r .surplus) (r .floor) (r .count) ≡ true
+amounts-hold : (c : tie.Else3) → let r = run (staged (ranged c)) in amountsFit (r .cost) (r .surplus) (r .floor) (r .count) (r .length) ≡ true
 amounts-hold c = sym (c .before .amounts-fit .ensures) ∙ not-false _ (c .if3 .left)
 
 returns : tie.Need-returns
@@ -68,12 +68,15 @@ shared-slice-read-amounts-fit-3 c = search needs
 shared-slice-read-amounts-fit-4 : tie.Need-shared-slice-read-amounts-fit-4
 shared-slice-read-amounts-fit-4 c = search needs
 
+shared-slice-read-amounts-fit-5 : tie.Need-shared-slice-read-amounts-fit-5
+shared-slice-read-amounts-fit-5 c = search needs
+
 amounts-fit-requires : tie.Need-amounts-fit-requires
 amounts-fit-requires c κs = search needs
 
 returns-3 : tie.Need-returns-3
 returns-3 c =
-    let e = c .before .before .before .before .before .before in
+    let e = c .before .before .before .before .before .before .before in
     sym (amounts-unfit (run (staged e)) (staged e .if1 .left) (stage-holds e) (sym (c .before .amounts-fit .ensures) ∙ not-true _ (c .if3 .taken)))
 
 sub-outputs-fit : tie.Need-sub-outputs-fit
@@ -92,7 +95,7 @@ returns-4 : tie.Need-returns-4
 returns-4 c =
     let e = c .before .before in
     let s = staged (ranged e) in
-    c .outputs-fit .ensures ∙ ap outputsFit (part-whole 8 (now (started s .args .run))) ∙ sym (outputs-decide (run s) (s .if1 .left) (stage-holds (ranged e)) (amounts-hold e))
+    c .outputs-fit .ensures ∙ ap outputsFit (part-whole 9 (now (started s .args .run))) ∙ sym (outputs-decide (run s) (s .if1 .left) (stage-holds (ranged e)) (amounts-hold e))
 
 pub is-begun-spec : {M : Type 1} → statement M
 is-begun-spec =
@@ -109,6 +112,7 @@ is-begun-spec =
     shared-slice-read-amounts-fit-2
     shared-slice-read-amounts-fit-3
     shared-slice-read-amounts-fit-4
+    shared-slice-read-amounts-fit-5
     amounts-fit-requires
     returns-3
     sub-outputs-fit

@@ -27,7 +27,7 @@ outputs-in-requires : tie.Need-outputs-in-requires
 outputs-in-requires c κs =
     let s = c .before .before in
     let run = now (s .args .run) in
-    (ap length (part-whole 8 run) ∙ length-drop 8 run ∙ ap (λ (n : ℕ). n - 8) (s .pre .0), subst⁻¹ (λ (l : List ℕ). outputsFit l ≡ true) (part-whole 8 run) (fitting (runIn run) (s .pre .1) .outputs))
+    (ap length (part-whole 9 run) ∙ length-drop 9 run ∙ ap (λ (n : ℕ). n - 9) (s .pre .0), subst⁻¹ (λ (l : List ℕ). outputsFit l ≡ true) (part-whole 9 run) (fitting (runIn run) (s .pre .1) .outputs))
 
 shared-slice-read-t8 : tie.Need-shared-slice-read-t8
 shared-slice-read-t8 c = search needs
@@ -50,12 +50,15 @@ shared-slice-read-t18 c = search needs
 shared-slice-read-t20 : tie.Need-shared-slice-read-t20
 shared-slice-read-t20 c = search needs
 
+shared-slice-read-t22 : tie.Need-shared-slice-read-t22
+shared-slice-read-t22 c = search needs
+
 returns : tie.Need-returns
 returns c =
-    let o = c .before .before .before .before .before .before .before in
+    let o = c .before .before .before .before .before .before .before .before in
     let s = o .before .before .before in
     let run = now (s .args .run) in
-    λ i. record { started = sym (fitting (runIn run) (s .pre .1) .started) i; finished = runIn run .finished; evaluations = runIn run .evaluations; low = runIn run .low; cost = runIn run .cost; surplus = runIn run .surplus; floor = runIn run .floor; count = runIn run .count; outputs = (o .outputs-in .ensures ∙ part-whole 8 run) i }
+    λ i. record { started = sym (fitting (runIn run) (s .pre .1) .started) i; finished = runIn run .finished; evaluations = runIn run .evaluations; low = runIn run .low; cost = runIn run .cost; surplus = runIn run .surplus; floor = runIn run .floor; count = runIn run .count; length = runIn run .length; outputs = (o .outputs-in .ensures ∙ part-whole 9 run) i }
 
 pub read-spec : {M : Type 1} → statement M
 read-spec =
@@ -72,4 +75,5 @@ read-spec =
     shared-slice-read-t16
     shared-slice-read-t18
     shared-slice-read-t20
+    shared-slice-read-t22
     returns)

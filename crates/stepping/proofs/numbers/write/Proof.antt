@@ -1,9 +1,9 @@
--- `stepping::numbers::write` meets its contract: eight numbers, and the outputs into the lent rest (`Eight`).
+-- `stepping::numbers::write` meets its contract: nine numbers, and the outputs into the lent rest (`Nine`).
 use denote.Ref.{now}
 use Rattle.stepping.specs.Runs.{numbersOf}
 use Rattle.stepping.specs.Contracts.{runOf}
 use Rattle.stepping.proofs.Copying.{part-whole}
-use Rattle.stepping.proofs.Eight.{eightSet, eight-length, eight-then}
+use Rattle.stepping.proofs.Nine.{nineSet, nine-length, nine-then}
 use native.Mathlib.Omega.{arith}
 use Prim.Native.Nat.{ℕ, _+_, _≤_, _<_, _-_, _*_}
 use lib.ListN.{length, length-set, length-drop}
@@ -36,6 +36,9 @@ slice-write-run-7 c = simp length-set (omega (arith, c .before .before .pre))
 slice-write-run-8 : tie.Need-slice-write-run-8
 slice-write-run-8 c = simp length-set (omega (arith, c .before .before .pre))
 
+slice-write-run-9 : tie.Need-slice-write-run-9
+slice-write-run-9 c = simp length-set (omega (arith, c .before .before .pre))
+
 sub-write-outputs : tie.Need-sub-write-outputs
 sub-write-outputs c = simp length-set (omega (arith, c .before .before .pre))
 
@@ -49,8 +52,8 @@ write-outputs-requires : tie.Need-write-outputs-requires
 write-outputs-requires c κs =
     let s = c .before .before .before in
     let n = s .args .n in
-    let t = eightSet (now (s .args .run)) 1 (n .finished) (n .evaluations) (n .low) (n .cost) (n .surplus) (n .floor) (n .count) in
-    ap length (part-whole 8 t) ∙ length-drop 8 t ∙ ap (λ (k : ℕ). k - 8) (eight-length 1 (n .finished) (n .evaluations) (n .low) (n .cost) (n .surplus) (n .floor) (n .count) (now (s .args .run)) ∙ s .pre)
+    let t = nineSet (now (s .args .run)) 1 (n .finished) (n .evaluations) (n .low) (n .cost) (n .surplus) (n .floor) (n .count) (n .length) in
+    ap length (part-whole 9 t) ∙ length-drop 9 t ∙ ap (λ (k : ℕ). k - 9) (nine-length 1 (n .finished) (n .evaluations) (n .low) (n .cost) (n .surplus) (n .floor) (n .count) (n .length) (now (s .args .run)) ∙ s .pre)
 
 -- the entry
 abbrev entry : tie.After-slice-known2 → tie.Start
@@ -59,7 +62,7 @@ entry c = c .before .before .before .before .before .before
 returns : tie.Need-returns
 returns c =
     let n = entry c .args .n in
-    eight-then 1 (n .finished) (n .evaluations) (n .low) (n .cost) (n .surplus) (n .floor) (n .count) (now (entry c .args .run)) _ (n .outputs) (omega (arith, entry c .pre)) (c .before .before .write-outputs .ensures)
+    nine-then 1 (n .finished) (n .evaluations) (n .low) (n .cost) (n .surplus) (n .floor) (n .count) (n .length) (now (entry c .args .run)) _ (n .outputs) (omega (arith, entry c .pre)) (c .before .before .write-outputs .ensures)
 
 outputs-long : (c : tie.After-outputs) → length (c .before .before .args .n .outputs) ≡ 32
 outputs-long c = search needs
@@ -67,7 +70,7 @@ outputs-long c = search needs
 same-length : tie.Need-same-length
 same-length c =
     let n = entry c .args .n in
-    let whole : length (numbersOf (runOf n)) ≡ 40 = omega (arith, outputs-long (c .before .before .before .before)) in
+    let whole : length (numbersOf (runOf n)) ≡ 41 = omega (arith, outputs-long (c .before .before .before .before)) in
     ap length (returns c) ∙ whole ∙ sym (entry c .pre)
 
 pub write-spec : {M : Type 1} → statement M
@@ -82,6 +85,7 @@ write-spec =
     slice-write-run-6
     slice-write-run-7
     slice-write-run-8
+    slice-write-run-9
     sub-write-outputs
     part-write-outputs-start
     part-write-outputs-end
