@@ -155,9 +155,18 @@ record Alike (r s : Lent) : Type 0 where
   pub numbers : r .numbers ≡ s .numbers
   pub file : held (r .numbers) (r .bytes) ≡ held (s .numbers) (s .bytes)
 
-started-alike : (v : Verdict) (file : List ℕ) (r s : Lent) → Alike r s → let x = startEnds v (r .numbers) (r .bytes) file in let y = startEnds v (s .numbers) (s .bytes) file in (x .answer ≡ y .answer) × Alike (record { numbers = x .numbers; bytes = x .bytes }) (record { numbers = y .numbers; bytes = y .bytes })
+-- so do two starts, and leave such runs
+abbrev StartsAlike : Verdict → List ℕ → Lent → Lent → Type 0
+StartsAlike v file r s = let x = startEnds v (r .numbers) (r .bytes) file in let y = startEnds v (s .numbers) (s .bytes) file in (x .answer ≡ y .answer) × Alike (record { numbers = x .numbers; bytes = x .bytes }) (record { numbers = y .numbers; bytes = y .bytes })
+
+accepted-alike : (v : Verdict) → v ≡ Verdict.Accepted → (file : List ℕ) (r s : Lent) → StartsAlike v file r s
 unfolding startEnds runFrom
-started-alike Verdict.Accepted file r s a = (refl, record { numbers = refl; file = take-append-seam file (drop (length file) (r .bytes)) ∙ sym (take-append-seam file (drop (length file) (s .bytes))) })
+accepted-alike Verdict.Accepted e file r s = (refl, record { numbers = refl; file = take-append-seam file (drop (length file) (r .bytes)) ∙ sym (take-append-seam file (drop (length file) (s .bytes))) })
+accepted-alike (Verdict.Refused x) e file r s = absurd (let z : _≡_ {A = ℕ} 0 1 = cc in omega arith)
+
+started-alike : (v : Verdict) (file : List ℕ) (r s : Lent) → Alike r s → StartsAlike v file r s
+unfolding startEnds
+started-alike Verdict.Accepted file r s a = accepted-alike Verdict.Accepted refl file r s
 started-alike (Verdict.Refused x) file r s a = (refl, a)
 
 advance-alike : (file : List ℕ) (r s : Lent) → Alike r s → advancedBy (r .numbers) (r .bytes) file ≡ advancedBy (s .numbers) (s .bytes) file
@@ -188,11 +197,6 @@ alike-on r s a (o ∷ os) =
     let one = alike-after r s a o in
     let rest = alike-on (lentAfter r o) (lentAfter s o) (one .1) os in
     (rest .0, ap₂ (λ (x : Answer) (xs : List Answer). x ∷ xs) (one .0) (rest .1))
-
-accepted-alike : (v : Verdict) → v ≡ Verdict.Accepted → (file : List ℕ) (r s : Lent) → let x = startEnds v (r .numbers) (r .bytes) file in let y = startEnds v (s .numbers) (s .bytes) file in (x .answer ≡ y .answer) × Alike (record { numbers = x .numbers; bytes = x .bytes }) (record { numbers = y .numbers; bytes = y .bytes })
-unfolding startEnds runFrom
-accepted-alike Verdict.Accepted e file r s = (refl, record { numbers = refl; file = take-append-seam file (drop (length file) (r .bytes)) ∙ sym (take-append-seam file (drop (length file) (s .bytes))) })
-accepted-alike (Verdict.Refused x) e file r s = absurd (let z : _≡_ {A = ℕ} 0 1 = cc in omega arith)
 
 pub start-forgets : StartForgets
 unfolding started
