@@ -1,19 +1,17 @@
 -- What an ask tells, in C: its amounts are small, and six numbers with the outputs behind them are the 38 of the definition.
-use Prim.Native.Nat.{ℕ, _+_, _-_, _≤_}
+use Prim.Native.Nat.{ℕ, _≤_}
 use native.Mathlib.Omega.{arith}
-use mathlib.Core.Path.{_≡_, refl, sym, ap, _∙_, subst⁻¹}
+use mathlib.Core.Path.{_≡_, refl, _∙_, subst⁻¹}
 use mathlib.Core.Bool.{Bool, true, false}
-use mathlib.Core.List.{List, [], _∷_, _++_, map}
+use mathlib.Core.List.{List, _∷_, map}
 use lib.IntN.{ℤ, pos}
-use lib.ListN.{length, take, drop, set, length-map, length-set, length-drop, length-append}
-use lib.Seq.{take-all}
+use lib.ListN.{length, set, length-map, length-set, length-drop, length-append}
 use Rattle.rules.specs.Lists.{over}
 use Rattle.rules.proofs.Encoding.Front.{lent, givenBack, front-none, front-set, front-tail, front-over}
 use Rattle.stepping.specs.declared.Asked.{Asked}
 use Rattle.stepping.specs.Runs.{runIn, begun, asked}
 use Rattle.stepping.proofs.Fitting.{fitting}
 use Rattle.stepping.proofs.Endings.{ask-unstarted, ask-begun}
-use Rattle.answering.specs.Answers.{numberOfState, numbersAsked}
 
 pub record Small (a : Asked) : Type 0 where
   pub cost : a .cost ≤ 35200000000000
@@ -26,9 +24,6 @@ by-begun numbers false e = subst⁻¹ Small (ask-unstarted numbers e) (record { 
 
 pub asked-small : (numbers : List ℕ) → Small (asked numbers)
 asked-small numbers = by-begun numbers (begun (runIn numbers)) refl
-
-pub part-long : (k : ℕ) (s : List ℤ) → length (take (length s - k) (drop k s)) ≡ length s - k
-part-long k s = ap length (take-all (length s - k) (drop k s) (omega (arith, length-drop k s))) ∙ length-drop k s
 
 pub over-long : (xs s : List ℤ) → length xs ≤ length s → length (over xs s) ≡ length s
 over-long xs s h = simp (length-append, length-drop) (omega arith)

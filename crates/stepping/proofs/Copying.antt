@@ -37,5 +37,9 @@ copying-over d₀ s {i = i} c h =
     c .same ∙ rw (take-all i s h, e, zero-add) refl
 
 -- a part from k on is all that is there
-pub part-whole : (k : ℕ) (s : List ℕ) → take (length s - k) (drop k s) ≡ drop k s
-part-whole k s = take-all (length s - k) (drop k s) (omega (arith, length-drop k s))
+module _ {A : Type 0} (k : ℕ) (s : List A) where
+  pub part-whole : take (length s - k) (drop k s) ≡ drop k s
+  part-whole = take-all (length s - k) (drop k s) (omega (arith, length-drop k s))
+
+  pub part-long : length (take (length s - k) (drop k s)) ≡ length s - k
+  part-long = ap length part-whole ∙ length-drop k s

@@ -10,8 +10,9 @@ use Rattle.rules.specs.Lists.{over}
 use Rattle.stepping.specs.declared.State.{State}
 use Rattle.stepping.specs.declared.Asked.{Asked}
 use Rattle.stepping.specs.Runs.{asked}
+use Rattle.stepping.proofs.Copying.{part-long}
 use Rattle.answering.specs.Answers.{numberOfState, numbersAsked}
-use Rattle.answering.proofs.Telling.{Small, asked-small, part-long, over-long, sixSet, six-length, six-then}
+use Rattle.answering.proofs.Telling.{Small, asked-small, over-long, sixSet, six-length, six-then}
 use native.Mathlib.Omega.{arith}
 use Prim.Native.Nat.{ℕ, _+_, _≤_, _<_, _-_, _*_}
 use lib.ListN.{length, length-set, length-map}

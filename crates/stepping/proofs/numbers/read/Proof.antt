@@ -1,14 +1,14 @@
 -- `stepping::numbers::read` meets its contract.
 use denote.Ref.{now}
 use Rattle.stepping.specs.Runs.{Run, runIn, outputsFit}
-use Rattle.stepping.proofs.Copying.{part-whole}
+use Rattle.stepping.proofs.Copying.{part-whole, part-long}
 use Rattle.stepping.proofs.Fitting.{fitting}
 use mathlib.Core.Bool.{true}
 use mathlib.Core.List.{List}
 use mathlib.Core.Path.{subst⁻¹}
 use native.Mathlib.Omega.{arith}
 use Prim.Native.Nat.{ℕ, _+_, _≤_, _<_, _-_, _*_}
-use lib.ListN.{length, length-drop}
+use lib.ListN.{length}
 use mathlib.Core.Path.{_≡_, refl, ap, sym, _∙_}
 use borrow.Author.Needs.{needs}
 use Rattle.stepping.proofs.numbers.read.Statement.{statement}
@@ -27,7 +27,7 @@ outputs-in-requires : tie.Need-outputs-in-requires
 outputs-in-requires c κs =
     let s = c .before .before in
     let run = now (s .args .run) in
-    (ap length (part-whole 9 run) ∙ length-drop 9 run ∙ ap (λ (n : ℕ). n - 9) (s .pre .0), subst⁻¹ (λ (l : List ℕ). outputsFit l ≡ true) (part-whole 9 run) (fitting (runIn run) (s .pre .1) .outputs))
+    (part-long 9 run ∙ ap (λ (n : ℕ). n - 9) (s .pre .0), subst⁻¹ (λ (l : List ℕ). outputsFit l ≡ true) (part-whole 9 run) (fitting (runIn run) (s .pre .1) .outputs))
 
 shared-slice-read-t8 : tie.Need-shared-slice-read-t8
 shared-slice-read-t8 c = search needs

@@ -2,11 +2,11 @@
 use denote.Ref.{now}
 use Rattle.stepping.specs.Runs.{numbersOf}
 use Rattle.stepping.specs.Contracts.{runOf}
-use Rattle.stepping.proofs.Copying.{part-whole}
+use Rattle.stepping.proofs.Copying.{part-long}
 use Rattle.stepping.proofs.Nine.{nineSet, nine-length, nine-then}
 use native.Mathlib.Omega.{arith}
 use Prim.Native.Nat.{ℕ, _+_, _≤_, _<_, _-_, _*_}
-use lib.ListN.{length, length-set, length-drop}
+use lib.ListN.{length, length-set}
 use mathlib.Core.Path.{_≡_, refl, ap, sym, _∙_}
 use borrow.Author.Needs.{needs}
 use Rattle.stepping.proofs.numbers.write.Statement.{statement}
@@ -53,7 +53,7 @@ write-outputs-requires c κs =
     let s = c .before .before .before in
     let n = s .args .n in
     let t = nineSet (now (s .args .run)) 1 (n .finished) (n .evaluations) (n .low) (n .cost) (n .surplus) (n .floor) (n .count) (n .length) in
-    ap length (part-whole 9 t) ∙ length-drop 9 t ∙ ap (λ (k : ℕ). k - 9) (nine-length 1 (n .finished) (n .evaluations) (n .low) (n .cost) (n .surplus) (n .floor) (n .count) (n .length) (now (s .args .run)) ∙ s .pre)
+    part-long 9 t ∙ ap (λ (k : ℕ). k - 9) (nine-length 1 (n .finished) (n .evaluations) (n .low) (n .cost) (n .surplus) (n .floor) (n .count) (n .length) (now (s .args .run)) ∙ s .pre)
 
 -- the entry
 abbrev entry : tie.After-slice-known2 → tie.Start
