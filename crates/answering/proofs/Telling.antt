@@ -1,9 +1,9 @@
--- What an ask tells, in C: its amounts are small, and six numbers with the outputs behind them are the 38 of the definition.
+-- What is told in C: one number at the start of a list; and of an ask, that its amounts are small, and six numbers with the outputs behind them are the 38 of the definition.
 use Prim.Native.Nat.{ℕ, _≤_}
 use native.Mathlib.Omega.{arith}
 use mathlib.Core.Path.{_≡_, refl, _∙_, subst⁻¹}
 use mathlib.Core.Bool.{Bool, true, false}
-use mathlib.Core.List.{List, _∷_, map}
+use mathlib.Core.List.{List, [], _∷_, map}
 use lib.IntN.{ℤ, pos}
 use lib.ListN.{length, set, length-map, length-set, length-drop, length-append}
 use Rattle.rules.specs.Lists.{over}
@@ -12,6 +12,12 @@ use Rattle.stepping.specs.declared.Asked.{Asked}
 use Rattle.stepping.specs.Runs.{runIn, begun, asked}
 use Rattle.stepping.proofs.Fitting.{fitting}
 use Rattle.stepping.proofs.Endings.{ask-unstarted, ask-begun}
+
+pub one-written : (xs : List ℤ) (a : ℤ) → 1 ≤ length xs → set xs 0 a ≡ over (a ∷ []) xs
+one-written [] a h = absurd (omega arith)
+one-written (x ∷ xs) a h = refl
+
+-- ---- an ask
 
 pub record Small (a : Asked) : Type 0 where
   pub cost : a .cost ≤ 35200000000000

@@ -18,11 +18,7 @@ use Rattle.judging.specs.Judging.{judgeVerdict, judgeEnds, judged, numberOfJudg
 use Rattle.judging.specs.declared.Judged.{Judged}
 use Rattle.rules.proofs.Lengths.{replied-length, packed-length}
 
--- one number, and two, written to the start of a list
-pub one-written : (xs : List ℤ) (a : ℤ) → 1 ≤ length xs → set xs 0 a ≡ over (a ∷ []) xs
-one-written [] a h = absurd (omega arith)
-one-written (x ∷ xs) a h = refl
-
+-- two numbers written to the start of a list
 pub two-written : (xs : List ℤ) (a b : ℤ) → 2 ≤ length xs → set (set xs 0 a) 1 b ≡ over (a ∷ b ∷ []) xs
 two-written [] a b h = absurd (omega arith)
 two-written (x ∷ []) a b h = absurd (omega arith)

@@ -7,7 +7,7 @@ use mir.Syntax.{w64}
 use mir.Val.{toZ}
 use mir.Facts.{toZ-pos}
 use Rattle.sensitivity.proofs.Outcomes.{written-few, floors-short, floors-told}
-use Rattle.panel.proofs.Answers.{one-written}
+use Rattle.answering.proofs.Telling.{one-written}
 use borrow.Author.Needs.{needs}
 use Rattle.panel.proofs.shahfureel_floors.Statement.{statement}
 use Rattle.panel.proofs.shahfureel_floors.Tie as tie
