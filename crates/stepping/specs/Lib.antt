@@ -2,3 +2,4 @@ pub mod Runs
 pub mod Contracts
 pub mod Claims
 pub mod Cases
+pub mod Limits
