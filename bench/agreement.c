@@ -212,6 +212,23 @@ void compare_small_cases(uint64_t seed, void (*compare_case)(uint64_t *state, co
     }
 }
 
+void damage_at_times(uint64_t *state, struct case_file *c)
+{
+    uint32_t at = random_between(state, 0, (uint32_t)c->length - 1);
+    switch (random_between(state, 0, 31)) {
+    case 0:
+        c->length = at;
+        break;
+    case 1:
+    case 2:
+    case 3:
+        c->bytes[at] = (uint8_t)random_between(state, 0, 255);
+        break;
+    default:
+        break;
+    }
+}
+
 void print_refusals(const uint64_t refused[SHAHFUREEL_LENGTH_MIN])
 {
     printf("; refusals by number:");

@@ -17,6 +17,9 @@ void compare_small(struct tally *first, struct tally *second);
 /* Calls a comparison on each of the small cases that a seed makes, in edition 1 and in edition 2. */
 void compare_small_cases(uint64_t seed, void (*compare_case)(uint64_t *state, const struct case_file *c));
 
+/* A changed byte of the file or an end too early, at times: a call then refuses it, or has another case. */
+void damage_at_times(uint64_t *state, struct case_file *c);
+
 /* Prints how often each refusal was given, and ends the line. */
 void print_refusals(const uint64_t refused[SHAHFUREEL_LENGTH_MIN]);
 

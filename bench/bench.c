@@ -7,6 +7,7 @@
 #include "judges.h"
 #include "measure.h"
 #include "plain.h"
+#include "refines.h"
 #include "steps.h"
 #include "views.h"
 
@@ -278,6 +279,7 @@ int main(int argc, char **argv)
     time_judges(repetitions, &groups[OF_EDITION_1 - 1]);
     time_floors(repetitions, &groups[OF_EDITION_1 - 1]);
     time_days(repetitions, &groups[OF_EDITION_1 - 1]);
+    time_refines(repetitions, &groups[SIZES], SIZES);
     printf("\n");
     for (int i = 0; i < SIZES; i++)
         if (sizes[i] == 1 || sizes[i] == 8 || sizes[i] == 32)

@@ -167,6 +167,18 @@ void make_group(struct group *g, uint32_t units, uint32_t zones, uint32_t editio
     }
 }
 
+/* A diesel set of 3 to 30 MW. */
+static const uint32_t equal_row[SHAHFUREEL_ROW_NUMBERS] = {120000000, 6200000, 900, 300, 30,  300, 0,   0,   0,  0,
+                                                           4,         60,      80,  110, 130, 160, 180, 210, 230};
+
+void make_equal_case(struct case_file *c, uint32_t units)
+{
+    uint32_t rows[SHAHFUREEL_ROWS_NUMBERS];
+    for (uint32_t i = 0; i < units; i++)
+        memcpy(rows + SHAHFUREEL_ROW_NUMBERS * i, equal_row, sizeof equal_row);
+    pack_case(c, equal_row[SHAHFUREEL_ROW_GREATEST] * units / 10 * 6, rows, units);
+}
+
 static void make_small_row(uint64_t *state, uint32_t *row)
 {
     uint32_t least = random_between(state, 1, 3);

@@ -29,6 +29,9 @@ void to_edition_2(uint64_t *state, const struct case_file *from, struct case_fil
 /* Fills a group with cases that dispatch answers after 18 evaluations, the most there are. */
 void make_group(struct group *g, uint32_t units, uint32_t zones, uint32_t edition, uint64_t seed);
 
+/* Makes a case of equal sets that may stand, with four zones each, at six tenths of their greatest outputs. */
+void make_equal_case(struct case_file *c, uint32_t units);
+
 /* Makes a small case of round numbers, in which choices tie and nets are equal. Dispatch may answer it or refuse it with 11. */
 void make_small_case(uint64_t *state, struct case_file *c);
 

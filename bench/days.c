@@ -92,24 +92,6 @@ static uint32_t make_demand(uint64_t *state, uint32_t own)
     }
 }
 
-/* A changed byte of the file or an end too early, at times: the call then refuses it, or has another case. */
-static void damage_at_times(uint64_t *state, struct case_file *c)
-{
-    uint32_t at = random_between(state, 0, (uint32_t)c->length - 1);
-    switch (random_between(state, 0, 31)) {
-    case 0:
-        c->length = at;
-        break;
-    case 1:
-    case 2:
-    case 3:
-        c->bytes[at] = (uint8_t)random_between(state, 0, 255);
-        break;
-    default:
-        break;
-    }
-}
-
 /* Lists of any length, also too long ones; at times with too little room, or a damaged file. */
 static void compare_case(uint64_t *state, const struct case_file *c)
 {

@@ -1,15 +1,16 @@
 /* A plain C program of the specification's dispatch, from file bytes to reply bytes: what the controller is measured against.
  * It checks and decodes each unit once, finds its permitted outputs once as regions, and makes one division a unit and
- * evaluation, from which it also has the least tied output. Judging outputs that someone gives, floors for other demands and a day
- * by slots have the same parts. It is tested, not proved. */
+ * evaluation, from which it also has the least tied output. Judging outputs that someone gives, floors for other demands, a day by
+ * slots and refining have the same parts. It is tested, not proved. */
 #include "plain.h"
 
 enum { UNITS_MAX = 32, ZONES_MAX = 4, REGIONS_MAX = 6 };
 enum { HEAD_BYTES = 8, ENTRY_BYTES = 4, ZONE_BYTES = 4 };
 enum { B1_AT = 26, B1_BYTES = 4, B1_MAX = 10000000 };
-enum { REPLY_BYTES_MIN = 92, OUTPUTS_AT = 28, JUDGE_ANSWERS = 4 };
+enum { REPLY_BYTES_MIN = 92, JUDGE_ANSWERS = 4 };
 enum { DEMAND_MAX = 320000, OUTPUT_MAX = 10000, MULTIPLIER_MAX = 65536, EVALUATIONS_MAX = 18, DEMANDS_MAX = 96 };
 enum { SLOT_BYTES = 18 };
+enum { REFINE_REPLY_BYTES_MIN = 94, BUDGET_MAX = 100000 };
 
 #define NET_OF_STEP INT64_C(100000000)
 #define PRICED_OF_COST INT64_C(100000)
@@ -32,7 +33,8 @@ enum refusal {
     DEMANDS_INVALID = 20,
     FLOORS_TOO_SHORT = 21,
     DAY_DEMANDS_INVALID = 22,
-    DAY_BUFFERS_TOO_SHORT = 23
+    DAY_BUFFERS_TOO_SHORT = 23,
+    BUDGET_OUT_OF_RANGE = 25
 };
 
 struct unit {
@@ -102,6 +104,12 @@ static void write_u16(uint8_t *at, uint32_t n)
 {
     at[0] = (uint8_t)(n >> 8);
     at[1] = (uint8_t)n;
+}
+
+static void write_u32(uint8_t *at, uint32_t n)
+{
+    write_u16(at, n >> 16);
+    write_u16(at + 2, n);
 }
 
 static void write_u64(uint8_t *at, uint64_t n)
@@ -461,16 +469,22 @@ static void search(const struct problem *q, struct solution *s)
 
 /* ---- the reply */
 
+/* Cost, gap, surplus and outputs, and how many bytes they take. */
+static uint32_t write_best(uint8_t *at, const struct problem *q, const struct allocation *best, int64_t floor)
+{
+    write_u64(at, (uint64_t)best->cost);
+    write_u64(at + 8, (uint64_t)(best->cost - floor));
+    write_u64(at + 16, (uint64_t)(best->net - q->target));
+    for (uint32_t i = 0; i < q->count; i++)
+        write_u16(at + 24 + 2 * i, best->outputs[i]);
+    return 24 + 2 * q->count;
+}
+
 static uint32_t write_reply(uint8_t *reply, const struct problem *q, const struct solution *s)
 {
     write_u16(reply, q->count);
     write_u16(reply + 2, s->evaluations);
-    write_u64(reply + 4, (uint64_t)s->best.cost);
-    write_u64(reply + 12, (uint64_t)(s->best.cost - s->floor));
-    write_u64(reply + 20, (uint64_t)(s->best.net - q->target));
-    for (uint32_t i = 0; i < q->count; i++)
-        write_u16(reply + OUTPUTS_AT + 2 * i, s->best.outputs[i]);
-    return OUTPUTS_AT + 2 * q->count;
+    return 4 + write_best(reply + 4, q, &s->best, s->floor);
 }
 
 static enum refusal solve(const uint8_t *file, size_t length, struct problem *q, struct solution *s)
@@ -671,4 +685,112 @@ uint32_t plain_day(const uint8_t *file, size_t file_length, const uint32_t *dema
     begin_day(file, q.count, units, histories);
     answers[0] = dispatch_slots(demands, demands_length, units, &q, trace, histories);
     return 0;
+}
+
+/* ---- refining: branch and bound over the regions */
+
+/* The node that is visited is a problem whose units have the regions that it leaves them; found is its dispatch. Open is the least
+ * floor of the nodes that are not replaced by children. */
+struct tree {
+    struct problem node;
+    struct solution found;
+    uint32_t budget, visited;
+    struct allocation best;
+    int64_t open;
+};
+
+static int64_t lesser(int64_t a, int64_t b)
+{
+    return a < b ? a : b;
+}
+
+/* Dispatches the node. Returns its floor, or -1 if nothing covers. */
+static int64_t dispatch_node(struct tree *t)
+{
+    t->visited++;
+    if (!greatest_outputs(&t->node, &t->found.best))
+        return -1;
+    search(&t->node, &t->found);
+    if (t->visited == 1 || t->found.best.cost < t->best.cost)
+        t->best = t->found.best;
+    return t->found.floor;
+}
+
+/* The first unit from there on that has several regions, or the number of units. */
+static uint32_t first_several(const struct problem *q, uint32_t from)
+{
+    while (from < q->count && q->offers[from].region_count == 1)
+        from++;
+    return from;
+}
+
+static void drop_lowest(struct offer *o)
+{
+    o->region_count--;
+    for (int32_t k = 0; k < o->region_count; k++)
+        o->regions[k] = o->regions[k + 1];
+}
+
+/* Puts a region back below the others. */
+static void add_lowest(struct offer *o, struct region lowest)
+{
+    for (int32_t k = o->region_count; k > 0; k--)
+        o->regions[k] = o->regions[k - 1];
+    o->regions[0] = lowest;
+    o->region_count++;
+}
+
+static void visit(struct tree *t, uint32_t from, int64_t parent);
+
+/* Visits the node with the unit kept to its lowest region, then with the unit kept to the others. */
+static void split(struct tree *t, uint32_t unit, int64_t floor)
+{
+    struct offer *o = &t->node.offers[unit];
+    int32_t count = o->region_count;
+    struct region lowest = o->regions[0];
+    o->region_count = 1;
+    visit(t, unit, floor);
+    o->region_count = count;
+    drop_lowest(o);
+    visit(t, unit, floor);
+    add_lowest(o, lowest);
+}
+
+/* Visits a node and what it splits into. No unit before `from` has several regions. */
+static void visit(struct tree *t, uint32_t from, int64_t parent)
+{
+    if (t->visited == t->budget) {
+        t->open = lesser(t->open, parent);
+        return;
+    }
+    int64_t floor = dispatch_node(t);
+    if (floor < 0)
+        return;
+    floor = floor < parent ? parent : floor;
+    uint32_t unit = first_several(&t->node, from);
+    if (unit == t->node.count || floor >= t->best.cost)
+        t->open = lesser(t->open, floor);
+    else
+        split(t, unit, floor);
+}
+
+uint32_t plain_refine(const uint8_t *file, size_t file_length, uint32_t budget, uint8_t *reply, size_t reply_room)
+{
+    struct tree t;
+    if (reply_room < REFINE_REPLY_BYTES_MIN)
+        return BUFFER_TOO_SHORT;
+    if (budget < 1 || budget > BUDGET_MAX)
+        return BUDGET_OUT_OF_RANGE;
+    enum refusal r = read_case(file, file_length, &t.node);
+    if (r != ACCEPTED)
+        return r;
+    if (!greatest_outputs(&t.node, &t.best))
+        return NO_ALLOCATION;
+    t.budget = budget;
+    t.visited = 0;
+    t.open = INT64_MAX;
+    visit(&t, 0, 0);
+    write_u16(reply, t.node.count);
+    write_u32(reply + 2, t.visited);
+    return 6 + write_best(reply + 6, &t.node, &t.best, lesser(t.open, t.best.cost));
 }

@@ -1,4 +1,4 @@
-/* The plain C programs of the specification's dispatch, view, judging, floors and day, as the benchmark calls them. */
+/* The plain C programs of the specification's dispatch, view, judging, floors, day and refining, as the benchmark calls them. */
 #ifndef PLAIN_H
 #define PLAIN_H
 
@@ -35,5 +35,8 @@ uint32_t plain_floors(const uint8_t *file, size_t file_length, const uint32_t *d
 uint32_t plain_day(const uint8_t *file, size_t file_length, const uint32_t *demands, size_t demands_length, uint8_t *trace,
                    size_t trace_room, struct shahfureel_history *histories, size_t histories_room, int64_t *answers,
                    size_t answers_room);
+
+/* As shahfureel_refine in include/shahfureel.h. */
+uint32_t plain_refine(const uint8_t *file, size_t file_length, uint32_t budget, uint8_t *reply, size_t reply_room);
 
 #endif

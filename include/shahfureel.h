@@ -6,7 +6,8 @@
  * Floors takes a case file and other demands, and says for each what it costs at least, from one search. The day takes a case
  * file and the demands of a day's slots, dispatches one after the other, each from the outputs of the one before, and says what
  * each slot costs and how often each unit is started. A run is a dispatch made one evaluation at a time, for screens that show
- * the best so far. The view serves a reply to station screens that poll it by Modbus.
+ * the best so far. Refining takes a case file and a budget of dispatches, and looks for cheaper outputs and a smaller gap. The view
+ * serves a reply to station screens that poll it by Modbus.
  *
  * A whole program: one unit that can give 0.2 to 1.0 MW, but nothing strictly between 0.4 and 0.7 MW, is asked for 0.5 MW.
  * It prints "unit 1 gives 0.7 MW" and "cost 119000, nobody does it for less than 77000".
@@ -53,8 +54,8 @@
  *   - otherwise only the start of an output buffer is written, as far as the call says; the rest is untouched;
  *   - it keeps nothing between calls but what it writes into a lent run, and allocates nothing. Several threads may call at once,
  *     also on the same input, each with output buffers and runs of its own. The stack that each takes is named below,
- *     SHAHFUREEL_STACK_...; in a dynamically linked program a first call takes up to 3 kB more, when the loader looks up memset or,
- *     for the start of a run, memcpy (seen, not proved).
+ *     SHAHFUREEL_STACK_... and, much the greatest, SHAHFUREEL_REFINE_STACK_BYTES; in a dynamically linked program a first call
+ *     takes up to 3 kB more, when the loader looks up memset or, for the start of a run, memcpy (seen, not proved).
  * What the caller must ensure (nothing in C can check it):
  *   - each pointer is valid for its length or room, and lists of numbers are aligned for their type;
  *   - LENGTHS AND ROOM OF LISTS COUNT NUMBERS, NOT BYTES: rows_length, rows_room, outputs_length, demands_length, floors_room,
@@ -80,6 +81,8 @@ extern "C" {
 #define SHAHFUREEL_UNITS_MAX 32u             /* units in a case file */
 #define SHAHFUREEL_FILE_BYTES_MAX 1608u      /* no case file is longer; of edition 1, none is longer than 1,480 */
 #define SHAHFUREEL_REPLY_BYTES 92u           /* a reply buffer has at least as many bytes */
+#define SHAHFUREEL_REFINE_REPLY_BYTES 94u    /* and one for shahfureel_refine as many */
+#define SHAHFUREEL_BUDGET_MAX 100000u        /* nodes that shahfureel_refine evaluates at most */
 #define SHAHFUREEL_ROW_NUMBERS 19u           /* numbers to a unit in a list of rows */
 #define SHAHFUREEL_ROWS_NUMBERS 608u         /* a list of rows for unpacking has at least as many numbers */
 #define SHAHFUREEL_ANSWERS 2u                /* a list of answers has at least as many; for view, floors and day one will do */
@@ -94,7 +97,7 @@ extern "C" {
 #define SHAHFUREEL_MULTIPLIER_MAX 65536u     /* hundredths of the currency per MWh */
 #define SHAHFUREEL_DEMAND_MAX 320000u        /* steps of 0.1 MW */
 #define SHAHFUREEL_RAMP_UNLIMITED 10000u     /* as up or down: no ramp limit that way */
-#define SHAHFUREEL_LENGTH_MIN 30u            /* shahfureel_dispatch and shahfureel_pack: an answer below this is a refusal */
+#define SHAHFUREEL_LENGTH_MIN 30u            /* shahfureel_dispatch, _refine and _pack: an answer below this is a refusal */
 #define SHAHFUREEL_VIEW_REQUEST_BYTES 5u     /* a Modbus request: function, start and quantity */
 #define SHAHFUREEL_VIEW_ANSWER_BYTES 252u    /* a buffer for a Modbus answer has at least as many bytes */
 
@@ -111,11 +114,12 @@ extern "C" {
 #define SHAHFUREEL_STACK_START 3584u
 #define SHAHFUREEL_STACK_ADVANCE 4096u
 #define SHAHFUREEL_STACK_ASK 512u
+#define SHAHFUREEL_REFINE_STACK_BYTES 73728u /* it calls itself, up to 161 calls deep */
 
 /* ---- editions of the case file. Edition 1 is what shahfureel_pack writes and shahfureel_unpack reads. In edition 2 each unit
  * also has b1, a linear loss, from -10,000,000 to 10,000,000: at output p the unit loses b1 * p hundred-millionths of a step
  * more. It is a B0 coefficient times 100,000,000, and may be negative. Edition 1 is read as b1 = 0. shahfureel_dispatch,
- * shahfureel_price, shahfureel_judge, shahfureel_floors, shahfureel_day and runs take both editions.
+ * shahfureel_price, shahfureel_judge, shahfureel_floors, shahfureel_day, shahfureel_refine and runs take both editions.
  *
  * To make a file of edition 2: edition2_pack of examples/edition2.h and edition2.c takes rows as shahfureel_pack does, and a b1
  * for each. By hand, from the bytes that shahfureel_pack wrote: the first field becomes 2; into each body, behind its byte 25,
@@ -161,6 +165,20 @@ enum shahfureel_reply {
 };
 
 #define SHAHFUREEL_REPLY_OUTPUTS_AT 28u      /* SHAHFUREEL_REPLY_OUTPUTS by its former name */
+
+/* ---- the reply of shahfureel_refine: the byte at which each field starts. It has the nodes, in 4 bytes, where a reply of
+ * shahfureel_dispatch has the evaluations, in 2. So all behind them starts 2 bytes later, and the functions for the one read wrong
+ * bytes of the other, shahfureel_reply_cost of this one too. Nothing in the bytes says which of the two they are: keep them apart by
+ * the call that wrote them. */
+
+enum shahfureel_refined {
+    SHAHFUREEL_REFINED_COUNT = 0,            /* 2 bytes: number of units */
+    SHAHFUREEL_REFINED_NODES = 2,            /* 4 bytes: nodes evaluated, 1 to the budget */
+    SHAHFUREEL_REFINED_COST = 6,             /* 8 bytes: what the units that run cost, millionths of the currency per hour */
+    SHAHFUREEL_REFINED_GAP = 14,             /* 8 bytes: likewise; nobody covers the demand for less than cost - gap */
+    SHAHFUREEL_REFINED_SURPLUS = 22,         /* 8 bytes: net of losses less the demand, hundred-millionths of a step */
+    SHAHFUREEL_REFINED_OUTPUTS = 30          /* 2 bytes to a unit: its output in steps of 0.1 MW, 0 if it stands */
+};
 
 /* ---- the answers of shahfureel_judge: the place of each number */
 
@@ -256,6 +274,38 @@ static inline uint16_t shahfureel_reply_output(const uint8_t *reply, size_t unit
     return (uint16_t)shahfureel_big_endian(reply + SHAHFUREEL_REPLY_OUTPUTS + 2 * unit, 2);
 }
 
+/* These read a reply that shahfureel_refine has written; `unit` counts from 0 and is below shahfureel_refined_count(reply). */
+
+static inline uint16_t shahfureel_refined_count(const uint8_t *reply)
+{
+    return (uint16_t)shahfureel_big_endian(reply + SHAHFUREEL_REFINED_COUNT, 2);
+}
+
+static inline uint32_t shahfureel_refined_nodes(const uint8_t *reply)
+{
+    return (uint32_t)shahfureel_big_endian(reply + SHAHFUREEL_REFINED_NODES, 4);
+}
+
+static inline uint64_t shahfureel_refined_cost(const uint8_t *reply)
+{
+    return shahfureel_big_endian(reply + SHAHFUREEL_REFINED_COST, 8);
+}
+
+static inline uint64_t shahfureel_refined_gap(const uint8_t *reply)
+{
+    return shahfureel_big_endian(reply + SHAHFUREEL_REFINED_GAP, 8);
+}
+
+static inline uint64_t shahfureel_refined_surplus(const uint8_t *reply)
+{
+    return shahfureel_big_endian(reply + SHAHFUREEL_REFINED_SURPLUS, 8);
+}
+
+static inline uint16_t shahfureel_refined_output(const uint8_t *reply, size_t unit)
+{
+    return (uint16_t)shahfureel_big_endian(reply + SHAHFUREEL_REFINED_OUTPUTS + 2 * unit, 2);
+}
+
 /* These read a trace that shahfureel_day has written; `slot` counts from 0 and is below the call's demands_length. */
 
 static inline uint16_t shahfureel_slot_status(const uint8_t *trace, size_t slot)
@@ -277,9 +327,9 @@ static inline uint64_t shahfureel_slot_gap(const uint8_t *trace, size_t slot)
  *
  * The first that applies is given: dispatch 1 to 6, unit by unit 7, 8, 18, 9, 10, then 11; pricing 14, 1, then as dispatch from
  * 2 on; judging as dispatch, then 19; floors 1, 20, 21, then as dispatch from 2 on; the day 1, 22, 23, then as dispatch from 2 on
- * but never 11; starting a run as dispatch from 2 on, advancing it 1, then 24, asking it 1; unpacking 1 to 6, unit by unit 7 to 10;
- * packing 12, 5, row by row 7 to 10, then 13; the view 1, 15, 16, 17. (Behind 24 an advance checks the file once more, as dispatch
- * does from 2 on. Of a run that a start has begun it finds nothing.)
+ * but never 11; refining 1, 25, then as dispatch from 2 on; starting a run as dispatch from 2 on, advancing it 1, then 24, asking
+ * it 1; unpacking 1 to 6, unit by unit 7 to 10; packing 12, 5, row by row 7 to 10, then 13; the view 1, 15, 16, 17. (Behind 24 an
+ * advance checks the file once more, as dispatch does from 2 on. Of a run that a start has begun it finds nothing.)
  *
  * 7 to 10 from packing: to find the row, pack the rows one by one, each as a list of its 19 numbers with demand 0. The row that
  * is refused is the one. From a call on a file: a file that packing has written is never refused with 2 to 10 or 18, if it is
@@ -299,8 +349,8 @@ static inline uint64_t shahfureel_slot_gap(const uint8_t *trace, size_t slot)
  * file, and it goes on. So a panel whose users may load a case starts anew at 24, or keeps a copy of the file while a run lasts. */
 
 enum shahfureel_refusal {
-    SHAHFUREEL_BUFFER_TOO_SHORT = 1,         /* lend a reply of 92 bytes, rows of 608 numbers, answers of 2, for judging 4,
-                                                for asking a run 38 */
+    SHAHFUREEL_BUFFER_TOO_SHORT = 1,         /* lend a reply of 92 bytes, for refining 94, rows of 608 numbers, answers of 2, for
+                                                judging 4, for asking a run 38 */
     SHAHFUREEL_FILE_TOO_SHORT = 2,           /* the file has less than its 8 bytes of head: was it read whole? */
     SHAHFUREEL_EDITION_UNKNOWN = 3,          /* the first field is neither 1 nor 2, or for unpacking not 1: bytes swapped? */
     SHAHFUREEL_COUNT_OUT_OF_RANGE = 4,       /* the file names no unit, or more than 32 */
@@ -315,7 +365,8 @@ enum shahfureel_refusal {
     SHAHFUREEL_ROWS_INVALID = 12,            /* rows_length is 0, above 608, or not 19 to a unit: does it count numbers? */
     SHAHFUREEL_FILE_BUFFER_TOO_SHORT = 13,   /* lend a file buffer of SHAHFUREEL_FILE_BYTES_MAX bytes */
     SHAHFUREEL_MULTIPLIER_OUT_OF_RANGE = 14, /* the multiplier is above 65,536 */
-    SHAHFUREEL_REPLY_MALFORMED = 15,         /* the reply is not 28 + 2 * units bytes, units 1 to 32: was its room passed? */
+    SHAHFUREEL_REPLY_MALFORMED = 15,         /* the reply is not 28 + 2 * units bytes, units 1 to 32: was its room passed, or is it
+                                                one of shahfureel_refine? */
     SHAHFUREEL_REQUEST_LENGTH_INVALID = 16,  /* the request is not 5 bytes: one of another function, or with its header? */
     SHAHFUREEL_ANSWER_TOO_SHORT = 17,        /* lend an answer of 252 bytes */
     SHAHFUREEL_LOSSES_OUT_OF_RANGE = 18,     /* edition 2: b1 outside -10,000,000 to 10,000,000, or b1 + 19,999 * b at or above
@@ -326,7 +377,9 @@ enum shahfureel_refusal {
     SHAHFUREEL_DAY_DEMANDS_INVALID = 22,     /* more than 96 demands for a day: make the slots longer, or plan the rest by a call on
                                                 a file whose previous outputs are those of the histories; or one above 320,000 */
     SHAHFUREEL_DAY_BUFFERS_TOO_SHORT = 23,   /* lend a trace of 18 bytes for each demand and 32 histories, also for fewer units */
-    SHAHFUREEL_CASE_CHANGED = 24             /* a run advanced with a file that is not its own: start anew, or hand over its own */
+    SHAHFUREEL_CASE_CHANGED = 24,            /* a run advanced with a file that is not its own: start anew, or hand over its own */
+    SHAHFUREEL_BUDGET_OUT_OF_RANGE = 25      /* a budget of 0 or above 100,000: ask for at most SHAHFUREEL_BUDGET_MAX. There is no
+                                                way to go on from there: a call always begins with the whole site */
 };
 
 /* ---- calls. docs/FORMATS.md has the case file byte by byte. */
@@ -430,6 +483,34 @@ uint32_t shahfureel_floors(const uint8_t *file, size_t file_length, const uint32
 uint32_t shahfureel_day(const uint8_t *file, size_t file_length, const uint32_t *demands, size_t demands_length, uint8_t *trace,
                         size_t trace_room, struct shahfureel_history *histories, size_t histories_room, int64_t *answers,
                         size_t answers_room);
+
+/* Looks for cheaper outputs and a smaller gap, for sites that will wait for it. Takes a case file, of either edition, and a budget.
+ * Returns the reply's length, 30 + 2 * units, and writes the reply; or returns a refusal, which is below SHAHFUREEL_LENGTH_MIN.
+ *   - One price of energy for all makes sets that may stand, or have zones, jump from region to region of their permitted outputs,
+ *     and so leaves a dispatch a gap of several percent. The regions of a unit are 0, if it may stand, and the intervals that its
+ *     limits, zones and ramp window leave it. Refining divides the site by them: it dispatches the site with the first unit that
+ *     has several regions kept to the lowest of them, then with that unit kept to the others, and so on in either part, depth first
+ *     (the field's branch and bound). Each such part, the whole site being the first, is a node. The budget, 1 to 100,000, is how
+ *     many nodes are evaluated, that is dispatched, at most.
+ *   - The reply has the best outputs of all nodes, the first found among equals. They are permitted and cover the demand after
+ *     losses, and nobody covers it for less than cost - gap. A larger budget raises neither the cost nor the gap. With a budget of
+ *     1, cost, gap, surplus and outputs are those that shahfureel_dispatch replies.
+ *   - A gap of 0 says that no outputs are cheaper. Fewer nodes than the budget say that the search has ended: every larger budget
+ *     has the same reply, also where a gap is left. So take a small budget, look at gap and nodes, and take ten times as much until
+ *     you are content, as examples/refine.c does: the budgets of all these calls together are a ninth more than the last.
+ *   - The order of the units in the file matters to the search, though not to what is permitted: put those first whose greatest
+ *     output is the dearest for each step; mostly it then ends sooner, or has a smaller gap at the same budget.
+ *   - The time grows with the nodes that are evaluated; the stack and the reply do not. A node makes at most 18
+ *     evaluations, as a dispatch does; the largest budget takes some tenths of a second at 32 units (docs/PERFORMANCE.md has the
+ *     time of a node). A call cannot be interrupted.
+ *   - The stack grows with the number of regions, up to SHAHFUREEL_REFINE_STACK_BYTES for 32 units of six regions each. A thread
+ *     may have less than that by default: see to it where you make one.
+ *   - That more load is never cheaper is promised of shahfureel_dispatch and not here: at one budget above 1 a higher demand may
+ *     cost less than a lower one.
+ *   - shahfureel_view refuses this reply with 15. To serve it all the same, make it a reply of 2 bytes less: its bytes 0 and 1, two
+ *     zeros for the evaluations, and its bytes from 6 on.
+ * The bytes of the buffer behind the reply are untouched. (reply_room counts bytes: at least 94, also for fewer units.) */
+uint32_t shahfureel_refine(const uint8_t *file, size_t file_length, uint32_t budget, uint8_t *reply, size_t reply_room);
 
 /* ---- a dispatch one evaluation at a time. A screen that is not to freeze starts a run, advances it until it is finished, 18 times
  * at most, and asks in between what is found so far. docs/C.md has a whole program, examples/run.c another. These three take the

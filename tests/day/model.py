@@ -39,9 +39,9 @@ def permitted(u):
     return [(p, cost(u, p), net(u, p)) for p in outputs]
 
 
-def dispatch(units, demand):
-    """The outputs that dispatch chooses, their cost and the gap; or None where nothing covers."""
-    offers, target, floors = [permitted(u) for u in units], NET * demand, []
+def dispatch(offers, demand):
+    """The outputs that dispatch chooses among the permitted ones of each unit, their cost and the gap; or None where nothing covers."""
+    target, floors = NET * demand, []
     total = lambda chosen, place: sum(output[place] for output in chosen)
     if not all(offers) or total([offer[-1] for offer in offers], 2) < target:
         return None
@@ -79,7 +79,7 @@ def day(units, demands):
     """Of each slot the outputs, cost and gap, or None; then each unit's starts."""
     slots, starts = [], [0] * len(units)
     for demand in demands:
-        slots.append(dispatch(units, demand))
+        slots.append(dispatch([permitted(u) for u in units], demand))
         for i, u in enumerate(units if slots[-1] else []):
             starts[i] += u["previous"] == 0 and slots[-1][0][i] > 0
             u["previous"] = slots[-1][0][i]
@@ -130,8 +130,9 @@ def hold_guide():
     print(f"day: {len(said)} days of docs/PLANNER.md as the model has them")
 
 
-if sys.argv[1] == "--guide":
-    hold_guide()
-else:
-    with open(sys.argv[1], "rb") as file:
-        say(file.read())
+if __name__ == "__main__":
+    if sys.argv[1] == "--guide":
+        hold_guide()
+    else:
+        with open(sys.argv[1], "rb") as file:
+            say(file.read())

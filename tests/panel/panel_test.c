@@ -1449,6 +1449,263 @@ static void runs_named(void)
     expect(shahfureel_advance(&run, E2, sizeof E2, &state, 1) == SHAHFUREEL_CASE_CHANGED, "names", "another case is 24");
 }
 
+/* ---- refining */
+
+static uint32_t refine(const uint8_t *from, size_t file_length, uint32_t budget, size_t alignment, size_t reply_room)
+{
+    fill();
+    uint8_t *file = copy_of(from, file_length, alignment);
+    uint32_t number = shahfureel_refine(file, file_length, budget, byte_space + GUARD + alignment, reply_room);
+    release("refine", file, from, file_length, alignment);
+    return number;
+}
+
+static void refine_gives(const uint8_t *file, size_t file_length, uint32_t budget, size_t alignment, size_t reply_room,
+                         uint32_t number, const char *what)
+{
+    expect(refine(file, file_length, budget, alignment, reply_room) == number, "refine", what);
+    expect(all_kept(), "refine", "a refusal changes nothing");
+}
+
+/* the row of a unit by its letter: U, and what it becomes by other numbers */
+static void lettered_row(char letter, uint32_t *row)
+{
+    memcpy(row, U_ROW, sizeof U_ROW);
+    switch (letter) {
+    case 'C':
+        row[SHAHFUREEL_ROW_C0] = 6000;
+        break;
+    case 'T':
+        row[SHAHFUREEL_ROW_C0] = 20000;
+        break;
+    case 'H':
+        row[SHAHFUREEL_ROW_C0] = 500000000;
+        break;
+    case 'K':
+        row[SHAHFUREEL_ROW_C0] = 1000000000;
+        break;
+    case 'M':
+        row[SHAHFUREEL_ROW_MUST_RUN] = 1;
+        break;
+    case 'A': /* a zone with nothing strictly inside */
+        row[SHAHFUREEL_ROW_EDGES + 1] = 5;
+        break;
+    case 'R': /* 8 to 10 are left */
+        row[SHAHFUREEL_ROW_PREVIOUS] = 9;
+        row[SHAHFUREEL_ROW_UP] = row[SHAHFUREEL_ROW_DOWN] = 1;
+        break;
+    case 'S': /* zones that share an edge */
+        row[SHAHFUREEL_ROW_ZONES] = 2;
+        row[SHAHFUREEL_ROW_EDGES + 2] = 7;
+        row[SHAHFUREEL_ROW_EDGES + 3] = 9;
+        break;
+    }
+}
+
+static uint32_t lettered_file(const char *units, uint32_t demand, uint8_t *file, size_t room)
+{
+    uint32_t rows[3 * ROW];
+    size_t count = strlen(units);
+    for (size_t i = 0; i < count; i++)
+        lettered_row(units[i], rows + ROW * i);
+    return shahfureel_pack(demand, rows, ROW * count, file, room);
+}
+
+/* the specification's rows, each with a wrong rule that it shows */
+static const struct {
+    const char *units;
+    uint32_t demand, budget, nodes;
+    uint64_t cost, gap;
+    uint32_t outputs[3];
+    const char *what;
+} refined[] = {
+    {"U", 5, 1, 1, 119000, 42000, {7}, "a child that is not evaluated left out of the gap"},
+    {"U", 5, 3, 3, 119000, 42000, {7}, "regions from above; halves; a dropped node not counted"},
+    {"U", 5, 4, 4, 119000, 42000, {7}, "all regions at once"},
+    {"U", 5, 5, 5, 119000, 0, {7}, "a dropped node kept in the gap"},
+    {"U", 5, 100000, 5, 119000, 0, {7}, "the budget for the count"},
+    {"U", 1, 4, 3, 24000, 0, {2}, "split although the floor has reached the cost"},
+    {"U", 3, 2, 1, 39000, 0, {3}, "its own dispatch not counted"},
+    {"C", 1, 2, 2, 45000, 30000, {3}, "the rest first"},
+    {"UU", 9, 1, 1, 175000, 42000, {4, 7}, "not lowered in a node"},
+    {"UU", 9, 2, 2, 171000, 38000, {0, 9}, "the last unit first"},
+    {"UU", 9, 5, 5, 171000, 38000, {0, 9}, "both children at the split; breadth first"},
+    {"UU", 9, 9, 9, 143000, 0, {2, 7}, "to the end"},
+    {"UU", 3, 2, 2, 39000, 3000, {0, 3}, "the greatest open floor"},
+    {"UU", 3, 5, 5, 39000, 3000, {0, 3}, "an equal cost replaces"},
+    {"UU", 12, 4, 4, 200000, 4000, {4, 8}, "the unit with most regions first"},
+    {"UC", 3, 6, 6, 39000, 0, {3, 0}, "a child not evaluated, whose parent's floor has reached the best cost meanwhile"},
+    {"AM", 10, 4, 4, 175000, 23000, {4, 7}, "adjacent regions joined"},
+    {"RU", 9, 5, 5, 168000, 0, {8, 2}, "regions kept that the ramp window empties"},
+    {"UUU", 14, 13, 13, 214000, 0, {3, 4, 7}, "three units"},
+    {"HK", 15, 20, 7, 1500263000, 0, {7, 8}, "a node without an allocation kept in the gap"},
+    {"S", 5, 1, 1, 119000, 42000, {7}, "a shared edge"},
+    {"S", 5, 4, 4, 119000, 42000, {7}, "a shared edge is a region"},
+    {"S", 5, 5, 5, 119000, 0, {7}, "a shared edge, to the end"},
+    {"SS", 9, 9, 9, 143000, 0, {2, 7}, "shared edges twice"},
+    {"TU", 6, 3, 3, 119000, 25000, {0, 7}, "more load may be cheaper within a budget: 6"},
+    {"TU", 7, 3, 3, 115000, 0, {3, 4}, "more load may be cheaper within a budget: 7"},
+};
+
+enum { REFINED = sizeof refined / sizeof refined[0] };
+
+static void refining_rows(size_t a)
+{
+    static const size_t rooms[3] = {94, 95, BYTES};
+    const uint8_t *reply = byte_space + GUARD + a;
+    uint8_t file[BYTES];
+    for (size_t k = 0; k < 3 * REFINED; k++) {
+        size_t r = k / 3, units = strlen(refined[r].units), sum = 0;
+        uint32_t length = lettered_file(refined[r].units, refined[r].demand, file, sizeof file);
+        expect(refine(file, length, refined[r].budget, a, rooms[k % 3]) == 30 + 2 * units, "refine", refined[r].what);
+        expect(shahfureel_refined_count(reply) == units, "refine", refined[r].what);
+        expect(shahfureel_refined_nodes(reply) == refined[r].nodes, "refine", refined[r].what);
+        expect(shahfureel_refined_cost(reply) == refined[r].cost && shahfureel_refined_gap(reply) == refined[r].gap, "refine",
+               refined[r].what);
+        for (size_t i = 0; i < units; i++) {
+            expect(shahfureel_refined_output(reply, i) == refined[r].outputs[i], "refine", refined[r].what);
+            sum += refined[r].outputs[i];
+        }
+        expect(shahfureel_refined_surplus(reply) == UINT64_C(100000000) * (sum - refined[r].demand), "refine", refined[r].what);
+        expect(bytes_kept_but(reply, 30 + 2 * units), "refine", "it writes 30 + 2n bytes and no other");
+    }
+}
+
+/* U5 at a budget of 5, byte by byte; and the same as a reply of dispatch, with 0 evaluations, as the header says */
+static const uint8_t U5_REFINED[32] = {0x00, 0x01, 0x00, 0x00, 0x00, 0x05, 0x00, 0x00, 0x00, 0x00, 0x00,
+                                       0x01, 0xD0, 0xD8, 0x00, 0x00, 0x00, 0x00, 0x00, 0x00, 0x00, 0x00,
+                                       0x00, 0x00, 0x00, 0x00, 0x0B, 0xEB, 0xC2, 0x00, 0x00, 0x07};
+
+static void refining_bytes(size_t a)
+{
+    uint8_t shortened[sizeof U5_REFINED - 2] = {0};
+    expect(refine(u5(), U5_BYTES, 5, a, 94) == sizeof U5_REFINED, "refine", "U5 returns 32");
+    expect(memcmp(byte_space + GUARD + a, U5_REFINED, sizeof U5_REFINED) == 0, "refine", "U5's bytes");
+    view_gives(U5_REFINED, sizeof U5_REFINED, 5, a, 252, 1, SHAHFUREEL_REPLY_MALFORMED, "a refined reply is 15");
+    memcpy(shortened, U5_REFINED, 2);
+    memcpy(shortened + 4, U5_REFINED + 6, sizeof shortened - 4);
+    expect(view(shortened, sizeof shortened, (const uint8_t[]){3, 0, 14, 0, 1}, 5, a, 252, 1) == 0, "refine", "as a reply, served");
+    expect(memcmp(byte_space + GUARD + a, (const uint8_t[]){3, 2, 0, 7}, 4) == 0, "refine", "and has the output");
+}
+
+/* what the last reply has but its count and nodes are those of a dispatch */
+static int refined_as_dispatched(const uint8_t *reply, const uint8_t *dispatched, uint32_t length)
+{
+    return shahfureel_refined_count(reply) == shahfureel_reply_count(dispatched) &&
+           memcmp(reply + 6, dispatched + 4, length - 6) == 0;
+}
+
+/* budgets that grow: the first has dispatch's reply; cost and gap do not rise, the outputs are accepted at that cost, what nobody
+ * spends less than is no lower than dispatch's, and once the search has ended the reply stays the same */
+static void refining_file(const uint8_t *file, size_t file_length, size_t a)
+{
+    static const uint32_t budgets[9] = {1, 2, 3, 4, 5, 8, 20, 50, 100};
+    const uint8_t *reply = byte_space + GUARD + a;
+    uint8_t dispatched[92], before[94];
+    uint32_t outputs[32], units = (uint32_t)shahfureel_big_endian(file + 2, 2), length = 30 + 2 * units;
+    expect(shahfureel_dispatch(file, file_length, dispatched, sizeof dispatched) == length - 2, "refine", "a case is dispatched");
+    uint64_t floor = shahfureel_reply_cost(dispatched) - shahfureel_reply_gap(dispatched);
+    for (size_t k = 0; k < 9; k++) {
+        expect(refine(file, file_length, budgets[k], a, 94) == length && bytes_kept_but(reply, length), "refine", "it is replied");
+        expect(k != 0 || refined_as_dispatched(reply, dispatched, length), "refine", "a budget of 1 has dispatch's reply");
+        uint64_t cost = shahfureel_refined_cost(reply), gap = shahfureel_refined_gap(reply);
+        uint32_t nodes = shahfureel_refined_nodes(reply);
+        expect(nodes >= 1 && nodes <= budgets[k] && cost - gap >= floor, "refine", "nodes within the budget, and no lower floor");
+        expect(k == 0 || cost <= shahfureel_refined_cost(before), "refine", "the cost does not rise");
+        expect(k == 0 || gap <= shahfureel_refined_gap(before), "refine", "the gap does not rise");
+        expect(k == 0 || shahfureel_refined_nodes(before) == budgets[k - 1] || memcmp(reply, before, length) == 0, "refine",
+               "once ended, the same reply");
+        memcpy(before, reply, length);
+        for (uint32_t i = 0; i < units; i++)
+            outputs[i] = shahfureel_refined_output(before, i);
+        judge_accepts(file, file_length, outputs, units, a, 4, (int64_t)cost, (int64_t)shahfureel_refined_surplus(before),
+                      (int64_t)(cost - floor), "the outputs are accepted");
+    }
+}
+
+static void refining_edition_2(size_t a)
+{
+    expect(refine(e2(), E2_BYTES, 5, a, 94) == 32, "refine", "b1 -10,000,000");
+    expect(shahfureel_refined_gap(byte_space + GUARD + a) == 0, "refine", "b1 -10,000,000 to the end");
+    refining_file(e2(), E2_BYTES, a);
+    refining_file(e2_with(5000, 4999), E2_BYTES, a);
+    for (size_t i = 0; i < DAMAGED_2; i++) {
+        refine_gives(e2_damaged(i), E2_BYTES, 1, a, 94, damaged_2[i].number, damaged_2[i].what);
+        refine_gives(e2_damaged(i), E2_BYTES, 0, a, 94, SHAHFUREEL_BUDGET_OUT_OF_RANGE, "25 comes before the file");
+    }
+}
+
+/* rooms and budgets that are refused, files that dispatch refuses, and what comes before what */
+static void refining_refused(size_t a)
+{
+    static const uint32_t wrong[4] = {0, 100001, 65536 * 2, UINT32_MAX};
+    refine_gives(u5(), U5_BYTES, 5, a, 0, SHAHFUREEL_BUFFER_TOO_SHORT, "a reply of no byte is 1");
+    refine_gives(u5(), U5_BYTES, 5, a, 92, SHAHFUREEL_BUFFER_TOO_SHORT, "a reply as dispatch takes it is 1");
+    refine_gives(u5(), U5_BYTES, 5, a, 93, SHAHFUREEL_BUFFER_TOO_SHORT, "a reply of 93 bytes is 1");
+    refine_gives(u5(), 0, 5, a, 93, SHAHFUREEL_BUFFER_TOO_SHORT, "1 comes before 2");
+    for (size_t k = 0; k < 4; k++) {
+        refine_gives(u5(), U5_BYTES, wrong[k], a, 94, SHAHFUREEL_BUDGET_OUT_OF_RANGE, "a budget outside 1 to 100,000 is 25");
+        refine_gives(u5(), U5_BYTES, wrong[k], a, 93, SHAHFUREEL_BUFFER_TOO_SHORT, "1 comes before 25");
+        refine_gives(u5(), 0, wrong[k], a, 94, SHAHFUREEL_BUDGET_OUT_OF_RANGE, "25 comes before 2");
+        refine_gives(u5_but(7, 11), U5_BYTES, wrong[k], a, 94, SHAHFUREEL_BUDGET_OUT_OF_RANGE, "25 comes before 11");
+    }
+    refine_gives(u5(), 0, 1, a, 94, SHAHFUREEL_FILE_TOO_SHORT, "an empty file is 2");
+    refine_gives(u5(), 7, 100000, a, 94, SHAHFUREEL_FILE_TOO_SHORT, "a file of 7 bytes is 2");
+    refine_gives(u5(), U5_BYTES - 1, 1, a, 94, SHAHFUREEL_CONTENTS_INVALID, "a cut file is 6");
+    refine_gives(u5(), U5_BYTES + 1, 1, a, 94, SHAHFUREEL_CONTENTS_INVALID, "a padded file is 6");
+    refine_gives(u5_but(7, 11), U5_BYTES, 1, a, 94, SHAHFUREEL_NO_ALLOCATION, "a demand of 11 is 11");
+    refine_gives(u5_but(7, 11), U5_BYTES, 100000, a, 94, SHAHFUREEL_NO_ALLOCATION, "also at the largest budget");
+    for (size_t i = 0; i < DAMAGED; i++) {
+        refine_gives(u5_but(damaged[i].at, damaged[i].value), U5_BYTES, 1, a, 94, damaged[i].number, damaged[i].what);
+        refine_gives(case_file, U5_BYTES, 100000, a, 94, damaged[i].number, damaged[i].what);
+        refine_gives(case_file, U5_BYTES, 0, a, 94, SHAHFUREEL_BUDGET_OUT_OF_RANGE, "25 comes before the file");
+        refine_gives(case_file, U5_BYTES, 5, a, 93, SHAHFUREEL_BUFFER_TOO_SHORT, "1 comes before the file");
+    }
+}
+
+static void refining(size_t a)
+{
+    uint8_t file[BYTES];
+    refining_rows(a);
+    refining_bytes(a);
+    for (uint8_t demand = 0; demand <= 10; demand++)
+        refining_file(u5_but(7, demand), U5_BYTES, a);
+    for (size_t k = 0; k < LOWERED; k++)
+        refining_file(file, lowered_file(k, file, sizeof file), a);
+    for (size_t k = 0; k < REFINED; k++)
+        refining_file(file, lettered_file(refined[k].units, refined[k].demand, file, sizeof file), a);
+    refining_edition_2(a);
+    refining_refused(a);
+}
+
+/* twelve sets alike, whose search is long: more nodes than 16 bits hold */
+static void refining_many(void)
+{
+    static const uint32_t row[ROW] = {7, 10001, 1000, 0, 2, 20, 0, 0, 0, 0, 4, 4, 7, 8, 10, 11, 13, 14, 16};
+    const uint8_t *reply = byte_space + GUARD + 1;
+    uint32_t rows[12 * ROW];
+    uint8_t file[BYTES];
+    for (size_t i = 0; i < 12; i++)
+        memcpy(rows + ROW * i, row, sizeof row);
+    uint32_t length = shahfureel_pack(145, rows, 12 * ROW, file, sizeof file);
+    expect(refine(file, length, 66000, 1, 94) == 54 && shahfureel_refined_nodes(reply) == 66000, "refine", "66,000 nodes");
+    refining_file(file, length, 1);
+}
+
+static void refined_named(void)
+{
+    uint8_t rising[34];
+    for (size_t i = 0; i < sizeof rising; i++)
+        rising[i] = (uint8_t)(0xC1 + i);
+    expect(shahfureel_refined_count(rising) == 0xC1C2, "names", "count of a refined reply");
+    expect(shahfureel_refined_nodes(rising) == 0xC3C4C5C6, "names", "nodes");
+    expect(shahfureel_refined_cost(rising) == UINT64_C(0xC7C8C9CACBCCCDCE), "names", "cost of a refined reply");
+    expect(shahfureel_refined_gap(rising) == UINT64_C(0xCFD0D1D2D3D4D5D6), "names", "gap of a refined reply");
+    expect(shahfureel_refined_surplus(rising) == UINT64_C(0xD7D8D9DADBDCDDDE), "names", "surplus of a refined reply");
+    expect(shahfureel_refined_output(rising, 0) == 0xDFE0 && shahfureel_refined_output(rising, 1) == 0xE1E2, "names",
+           "outputs of a refined reply");
+}
+
 /* ---- packing */
 
 static uint32_t pack(uint32_t demand, const uint32_t *from, size_t rows_length, size_t alignment, size_t file_room)
@@ -1610,6 +1867,7 @@ static void sizes_named(void)
     expect(SHAHFUREEL_FILE_BYTES_MAX == BYTES && SHAHFUREEL_ROWS_NUMBERS == NUMBERS, "names", "1,608 bytes, 608 numbers");
     expect(SHAHFUREEL_ROW_NUMBERS == ROW && SHAHFUREEL_ROW_EDGES + 8 == ROW, "names", "19 numbers, the last 8 of them edges");
     expect(SHAHFUREEL_REPLY_BYTES == 92 && SHAHFUREEL_ANSWERS == 2, "names", "92 bytes, 2 answers");
+    expect(SHAHFUREEL_REFINE_REPLY_BYTES == 94 && SHAHFUREEL_BUDGET_MAX == 100000, "names", "94 bytes, 100,000 nodes");
     expect(SHAHFUREEL_JUDGE_ANSWERS == 4 && SHAHFUREEL_DEMANDS_MAX == 96, "names", "4 answers of judging, 96 demands");
     expect(SHAHFUREEL_FLOORS_MAX == SHAHFUREEL_DEMANDS_MAX, "names", "the former name of the number of demands");
     expect(SHAHFUREEL_SLOT_BYTES == SLOT && SHAHFUREEL_HISTORIES == 32, "names", "18 bytes to a slot, 32 histories");
@@ -1646,6 +1904,7 @@ static void longest_reply(const uint8_t *file, size_t length)
     floors_of_reply(file, length, 1);
     days_of_file(file, length, 1);
     run_to_the_end(file, length, 1);
+    refining_file(file, length, 1);
 }
 
 /* 32 times V: the longest file of edition 1 */
@@ -1783,6 +2042,8 @@ int main(void)
     slots_named();
     judgements_named();
     runs_named();
+    refined_named();
+    refining_many();
     advice();
     for (size_t alignment = 1; alignment <= ALIGNMENTS; alignment++) {
         dispatching(alignment);
@@ -1792,6 +2053,7 @@ int main(void)
         flooring(alignment);
         planning(alignment);
         running(alignment);
+        refining(alignment);
         packing(alignment);
         unpacking(alignment);
     }

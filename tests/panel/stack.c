@@ -1,5 +1,6 @@
 /* The stack that each call takes: it is made on a stack of its own, painted before, and what it has written over is counted. No call may
- * take more than include/shahfureel.h says, on the largest cases of either edition and on U5. */
+ * take more than include/shahfureel.h says, on the largest cases of either edition and on U5; refining moreover on a case whose search
+ * is as deep as one can be. */
 #define _XOPEN_SOURCE 700
 #include "shahfureel.h"
 
@@ -8,7 +9,7 @@
 #include <string.h>
 #include <ucontext.h>
 
-enum { STACK = 65536, PAINT = 0xA5 };
+enum { STACK = 262144, PAINT = 0xA5, BUDGET = 1000 };
 
 static uint8_t stack[STACK] __attribute__((aligned(64)));
 static ucontext_t here, there;
@@ -21,6 +22,7 @@ static uint8_t trace[SHAHFUREEL_DEMANDS_MAX * SHAHFUREEL_SLOT_BYTES];
 static struct shahfureel_history histories[SHAHFUREEL_HISTORIES];
 static struct shahfureel_run run;
 static int64_t state, asked[SHAHFUREEL_RUN_ANSWERS];
+static uint8_t refined[SHAHFUREEL_REFINE_REPLY_BYTES];
 static size_t file_length, units;
 static uint32_t reply_length;
 
@@ -49,6 +51,7 @@ static void advance(void)
     while (state == SHAHFUREEL_UNFINISHED);
 }
 static void ask(void) { shahfureel_ask(&run, asked, SHAHFUREEL_RUN_ANSWERS); }
+static void refine(void) { shahfureel_refine(file, file_length, BUDGET, refined, sizeof refined); }
 
 static const struct {
     const char *name;
@@ -60,7 +63,7 @@ static const struct {
     {"view", view, SHAHFUREEL_STACK_VIEW},             {"judge", judge, SHAHFUREEL_STACK_JUDGE},
     {"floors", floor_list, SHAHFUREEL_STACK_FLOORS},   {"day", day, SHAHFUREEL_STACK_DAY},
     {"start", start, SHAHFUREEL_STACK_START},          {"advance", advance, SHAHFUREEL_STACK_ADVANCE},
-    {"ask", ask, SHAHFUREEL_STACK_ASK},
+    {"ask", ask, SHAHFUREEL_STACK_ASK},                {"refine", refine, SHAHFUREEL_REFINE_STACK_BYTES},
 };
 
 enum { CALLS = sizeof calls / sizeof calls[0] };
@@ -97,6 +100,31 @@ static void read_case(const char *path)
         demands[k] = (uint32_t)shahfureel_big_endian(file + 4, 4) * (uint32_t)(k % 4) / 3; /* from none to the case's own */
 }
 
+/* 32 sets alike of six regions, at a demand that they cover only from the highest region of each. So of every node that is split
+ * the part with the lowest region covers nothing, and the rest is split again, until one region is left to each set: 160 splits,
+ * each below the one before, and 321 nodes. No outputs tie at a whole price of energy, so that a gap stays open all the way down. */
+static void make_deepest_case(void)
+{
+    static const uint32_t row[SHAHFUREEL_ROW_NUMBERS] = {0, 1, 3, 0, 1, 100, 0, 0, 0, 0, 4, 2, 4, 5, 7, 8, 10, 11, 13};
+    units = SHAHFUREEL_UNITS_MAX;
+    for (size_t i = 0; i < units; i++)
+        memcpy(rows + SHAHFUREEL_ROW_NUMBERS * i, row, sizeof row);
+    file_length = shahfureel_pack(100 * SHAHFUREEL_UNITS_MAX - 50, rows, SHAHFUREEL_ROWS_NUMBERS, file, sizeof file);
+}
+
+/* makes each call on the case, and keeps the most that it took */
+static void measure(size_t own, size_t *most)
+{
+    for (size_t k = 0; k < CALLS; k++) {
+        size_t taken = taken_by(calls[k].call);
+        taken = taken > own ? taken - own : 0;
+        if (taken > most[k])
+            most[k] = taken;
+        for (size_t u = 0; k == 0 && u < units && reply_length >= SHAHFUREEL_LENGTH_MIN; u++)
+            outputs[u] = shahfureel_reply_output(reply, (unsigned)u);
+    }
+}
+
 int main(int count, char **paths)
 {
     size_t most[CALLS] = {0};
@@ -104,15 +132,11 @@ int main(int count, char **paths)
     int failed = count < 2;
     for (int i = 1; i < count; i++) {
         read_case(paths[i]);
-        for (size_t k = 0; k < CALLS; k++) {
-            size_t taken = taken_by(calls[k].call);
-            taken = taken > own ? taken - own : 0;
-            if (taken > most[k])
-                most[k] = taken;
-            for (size_t u = 0; k == 0 && u < units && reply_length >= SHAHFUREEL_LENGTH_MIN; u++)
-                outputs[u] = shahfureel_reply_output(reply, (unsigned)u);
-        }
+        measure(own, most);
     }
+    make_deepest_case();
+    measure(own, most);
+    failed |= shahfureel_refined_nodes(refined) != 321;
     for (size_t k = 0; k < CALLS; k++) {
         printf("stack: %s %zu bytes, at most %zu\n", calls[k].name, most[k], calls[k].most);
         failed |= most[k] > calls[k].most || most[k] == 0;

@@ -4,59 +4,20 @@
 use second_solver::branches::Reached;
 use second_solver::calls::{bytes_of, Call};
 use second_solver::generate::kinds;
+use second_solver::hex;
 use second_solver::lent::{difference_of, random_byte, random_i64, random_u32, Lent};
+use second_solver::library::{
+    shahfureel_dispatch, shahfureel_floors, shahfureel_judge, shahfureel_pack, shahfureel_price, shahfureel_unpack, shahfureel_view,
+};
+use second_solver::program::{self, compared, refusal_or_length, Comparison};
 use second_solver::promise::{self, Floors, Judgements, Loads};
-use second_solver::random::{seed_of_clock, Random};
+use second_solver::random::Random;
 use second_solver::solver::{self, Judged, Refused};
 use second_solver::tally::{Tally, POSSIBLE_IN_C};
-use second_solver::{hex, vectors};
-use std::time::{Duration, Instant};
 
 const LONG: usize = 65_536;
 const MOST_ALLOCATIONS: usize = 200_000;
 const MOST_OFFERS: usize = 300;
-
-extern "C" {
-    fn shahfureel_dispatch(file: *const u8, file_length: usize, reply: *mut u8, reply_length: usize) -> u32;
-    fn shahfureel_price(file: *const u8, file_length: usize, multiplier: u32, answers: *mut i64, answers_length: usize) -> u32;
-    fn shahfureel_pack(demand: u32, rows: *const u32, rows_length: usize, file: *mut u8, file_length: usize) -> u32;
-    fn shahfureel_unpack(
-        file: *const u8,
-        file_length: usize,
-        rows: *mut u32,
-        rows_length: usize,
-        answers: *mut i64,
-        answers_length: usize,
-    ) -> u32;
-    fn shahfureel_view(
-        reply: *const u8,
-        reply_length: usize,
-        request: *const u8,
-        request_length: usize,
-        answer: *mut u8,
-        answer_room: usize,
-        lengths: *mut i64,
-        lengths_room: usize,
-    ) -> u32;
-    fn shahfureel_judge(
-        file: *const u8,
-        file_length: usize,
-        outputs: *const u32,
-        outputs_length: usize,
-        answers: *mut i64,
-        answers_room: usize,
-    ) -> u32;
-    fn shahfureel_floors(
-        file: *const u8,
-        file_length: usize,
-        demands: *const u32,
-        demands_length: usize,
-        floors: *mut i64,
-        floors_room: usize,
-        answers: *mut i64,
-        answers_room: usize,
-    ) -> u32;
-}
 
 // ---- lent buffers
 
@@ -225,14 +186,11 @@ fn solver_answer(call: &Call, buffers: &mut Buffers) -> u32 {
 
 /// The refusal that a number of a C call stands for.
 fn refusal(call: &Call, number: u32) -> Option<Refused> {
-    let answered = match call {
-        Call::Dispatch { .. } | Call::Pack { .. } => number >= 30,
-        Call::Price { .. } | Call::Unpack { .. } | Call::View { .. } | Call::Judge { .. } | Call::Floors { .. } => number == 0,
-    };
-    if answered {
-        None
-    } else {
-        Some(Refused(number))
+    match call {
+        Call::Dispatch { .. } | Call::Pack { .. } => refusal_or_length(number),
+        Call::Price { .. } | Call::Unpack { .. } | Call::View { .. } | Call::Judge { .. } | Call::Floors { .. } => {
+            program::refusal(number)
+        }
     }
 }
 
@@ -250,33 +208,28 @@ fn compare_with_room(call: &Call, room: usize, random: &mut Random) -> Result<(u
 }
 
 fn compare_in(call: &Call, before: Buffers) -> Result<(u32, Buffers), String> {
-    let (mut by_library, mut by_solver) = (before.clone(), before.clone());
-    let library = library_answer(call, &mut by_library);
-    let solver = solver_answer(call, &mut by_solver);
-    if library != solver || by_library != by_solver {
-        return Err(difference(call, (library, &by_library), (solver, &by_solver)));
-    }
-    if refusal(call, library).is_some() && by_library != before {
-        return Err(difference(call, (library, &by_library), (solver, &before)));
-    }
-    Ok((library, by_library))
+    let by_library = |buffers: &mut Buffers| library_answer(call, buffers);
+    let by_solver = |buffers: &mut Buffers| solver_answer(call, buffers);
+    let answer = compared(&before, by_library, by_solver, |number| refusal(call, number), difference);
+    answer.map_err(|text| format!("{}\n{}{}", input_text(call), room_text(&before), text))
 }
 
-fn difference(call: &Call, library: (u32, &Buffers), solver: (u32, &Buffers)) -> String {
-    let mut text = format!("{}\n", input_text(call));
-    text += &format!(
-        "lent: {} bytes, {} numbers of rows, {} floors, {} answers\n",
-        library.1.bytes_out.length, library.1.rows_out.length, library.1.floors_out.length, library.1.answers.length
-    );
-    text += &format!("the library returns {}, the solver {}\n", library.0, solver.0);
-    text += &difference_of("input bytes", &library.1.bytes_in, &solver.1.bytes_in);
-    text += &difference_of("request bytes", &library.1.request_in, &solver.1.request_in);
-    text += &difference_of("input numbers", &library.1.numbers_in, &solver.1.numbers_in);
-    text += &difference_of("bytes", &library.1.bytes_out, &solver.1.bytes_out);
-    text += &difference_of("rows", &library.1.rows_out, &solver.1.rows_out);
-    text += &difference_of("floors", &library.1.floors_out, &solver.1.floors_out);
-    text += &difference_of("answers", &library.1.answers, &solver.1.answers);
+fn difference(library: &Buffers, solver: &Buffers) -> String {
+    let mut text = difference_of("input bytes", &library.bytes_in, &solver.bytes_in);
+    text += &difference_of("request bytes", &library.request_in, &solver.request_in);
+    text += &difference_of("input numbers", &library.numbers_in, &solver.numbers_in);
+    text += &difference_of("bytes", &library.bytes_out, &solver.bytes_out);
+    text += &difference_of("rows", &library.rows_out, &solver.rows_out);
+    text += &difference_of("floors", &library.floors_out, &solver.floors_out);
+    text += &difference_of("answers", &library.answers, &solver.answers);
     text
+}
+
+fn room_text(lent: &Buffers) -> String {
+    format!(
+        "lent: {} bytes, {} numbers of rows, {} floors, {} answers\n",
+        lent.bytes_out.length, lent.rows_out.length, lent.floors_out.length, lent.answers.length
+    )
 }
 
 fn input_text(call: &Call) -> String {
@@ -324,29 +277,6 @@ struct Run {
 }
 
 impl Run {
-    /// Makes the case of a seed: a kind, its calls, and in one case of 50 the brute force of what is promised.
-    fn case(&mut self, seed: u64) -> Result<(), String> {
-        let mut random = Random::new(seed);
-        let kind = random.pick(&kinds());
-        let by_brute_force = random.chance(50);
-        for call in (kind.make)(&mut random) {
-            let call = sometimes_padded(call, &mut random);
-            let (number, mut buffers) = compare(&call, &mut random)?;
-            self.tally.count(call.index(), refusal(&call, number));
-            self.reached.count(&call, refusal(&call, number));
-            if by_brute_force {
-                self.check_promise(&call, number, &mut buffers)?;
-            }
-            if let Call::Dispatch { file, .. } = &call {
-                if matches!(refusal(&call, number), None | Some(Refused(11))) && random.chance(2) {
-                    self.check_loads(file, &mut random)?;
-                }
-            }
-        }
-        self.cases += 1;
-        Ok(())
-    }
-
     /// Checks a dispatch of the library against demand 3, or a judgement or floors against what is promised of them, if the case is
     /// small.
     fn check_promise(&mut self, call: &Call, number: u32, buffers: &mut Buffers) -> Result<(), String> {
@@ -393,12 +323,33 @@ impl Run {
         let lower = replies.pop().expect("two replies");
         self.loads.check(lower, higher).map_err(|text| format!("{}\nfile {}", text, hex(file)))
     }
+}
 
-    fn case_or_exit(&mut self, seed: u64) {
-        if let Err(text) = self.case(seed) {
-            println!("{}\ncase seed {}: repeat it with `tests/second_solver/bulk --case {}`", text.trim_end(), seed, seed);
-            std::process::exit(1);
+impl Comparison for Run {
+    const NAME: &'static str = "bulk";
+    const LEAST_CASES: u64 = 0;
+
+    /// Makes the case of a seed: a kind, its calls, and in one case of 50 the brute force of what is promised.
+    fn case(&mut self, seed: u64) -> Result<(), String> {
+        let mut random = Random::new(seed);
+        let kind = random.pick(&kinds());
+        let by_brute_force = random.chance(50);
+        for call in (kind.make)(&mut random) {
+            let call = sometimes_padded(call, &mut random);
+            let (number, mut buffers) = compare(&call, &mut random)?;
+            self.tally.count(call.index(), refusal(&call, number));
+            self.reached.count(&call, refusal(&call, number));
+            if by_brute_force {
+                self.check_promise(&call, number, &mut buffers)?;
+            }
+            if let Call::Dispatch { file, .. } = &call {
+                if matches!(refusal(&call, number), None | Some(Refused(11))) && random.chance(2) {
+                    self.check_loads(file, &mut random)?;
+                }
+            }
         }
+        self.cases += 1;
+        Ok(())
     }
 
     fn print(&self) {
@@ -411,39 +362,16 @@ impl Run {
             println!("{}", line);
         }
     }
-}
-
-/// Runs cases of a seed for some seconds. A long run has to reach every refusal.
-fn run_for(seconds: u64, seed: u64) {
-    println!("seed {}", seed);
-    let end = Instant::now() + Duration::from_secs(seconds);
-    let mut run = Run::default();
-    let mut seeds = Random::new(seed);
-    while Instant::now() < end {
-        run.case_or_exit(seeds.next());
+    /// A long run has to reach every refusal.
+    fn assert_complete(&self) {
+        if self.cases >= 1_000 {
+            self.tally.assert_complete(POSSIBLE_IN_C);
+            self.reached.assert_complete();
+            self.loads.assert_complete();
+        }
     }
-    run.print();
-    if run.cases >= 1_000 {
-        run.tally.assert_complete(POSSIBLE_IN_C);
-        run.reached.assert_complete();
-        run.loads.assert_complete();
-    }
-    println!("repeat this run with seed {}", seed);
 }
 
 fn main() {
-    let arguments: Vec<String> = std::env::args().skip(1).collect();
-    let arguments: Vec<&str> = arguments.iter().map(String::as_str).collect();
-    let number = |text: &str| text.parse::<u64>().expect("a number");
-    vectors::check();
-    match arguments.as_slice() {
-        ["--case", seed] => {
-            let mut run = Run::default();
-            run.case_or_exit(number(seed));
-            run.print();
-        }
-        [seconds] => run_for(number(seconds), seed_of_clock()),
-        [seconds, seed] => run_for(number(seconds), number(seed)),
-        _ => panic!("usage: bulk SECONDS [SEED], or bulk --case SEED"),
-    }
+    program::run::<Run>();
 }

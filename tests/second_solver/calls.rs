@@ -1,5 +1,5 @@
 //! The calls of the specification, with their inputs and the size of the buffer that is lent: seven that the runner makes too,
-//! the operations on its run, and the day, which it leaves out.
+//! the operations on its run, and two that it leaves out, the day and the search within a budget.
 
 use crate::solver::{self, Asked, Numbers, Refused, Run, State};
 
@@ -87,6 +87,14 @@ pub struct Day {
     pub trace_room: usize,
     pub histories_room: usize,
     pub answers_room: usize,
+}
+
+/// A call for a search within a budget, and how many bytes of the reply are lent.
+#[derive(Clone, Debug)]
+pub struct Refine {
+    pub file: Vec<u8>,
+    pub budget: u32,
+    pub room: usize,
 }
 
 /// Numbers of 32 bits as bytes, 4 to a number, most significant byte first.

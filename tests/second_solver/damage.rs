@@ -374,10 +374,15 @@ pub fn refused_files(edition: i128, random: &mut Random) -> Vec<Vec<u8>> {
     files.push(solver::encode(&Case { demand: 320_000, ..case.clone() }));
     let mut stuck = case;
     let unit = &mut stuck.units[random.below(3)];
-    let previous = if unit.greatest < 10_000 { unit.greatest + 1 } else { unit.least - 1 };
-    *unit = Unit { mark: 1, previous, up: 0, down: 0, ..unit.clone() };
+    *unit = Unit { mark: 1, ..unable_to_run(unit) };
     files.push(solver::encode(&stuck));
     files
+}
+
+/// A small unit with a ramp window that is outside of its limits.
+pub fn unable_to_run(unit: &Unit) -> Unit {
+    let previous = if unit.greatest < 10_000 { unit.greatest + 1 } else { unit.least - 1 };
+    Unit { previous, up: 0, down: 0, ..unit.clone() }
 }
 
 /// A file, and in edition 1 rows, with two faults, each a number and a unit. Where both set one number of a unit, the first has it.

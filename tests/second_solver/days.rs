@@ -5,28 +5,13 @@
 use second_solver::calls::Day;
 use second_solver::hex;
 use second_solver::lent::{difference_of, random_byte, random_history, random_i64, random_u32, Lent};
-use second_solver::program::{self, refusal, Comparison};
+use second_solver::library::{dispatch, shahfureel_day};
+use second_solver::program::{self, compared, refusal, Comparison};
 use second_solver::random::Random;
 use second_solver::slots::{stated, KINDS};
 use second_solver::slotted::{Reached, Seen, Slot};
-use second_solver::solver::{self, History, Refused, Reply, Unit, SLOT};
+use second_solver::solver::{self, History, Refused, Unit, SLOT};
 use second_solver::tally::{Numbers, POSSIBLE_OF_DAYS};
-
-extern "C" {
-    fn shahfureel_dispatch(file: *const u8, file_length: usize, reply: *mut u8, reply_length: usize) -> u32;
-    fn shahfureel_day(
-        file: *const u8,
-        file_length: usize,
-        demands: *const u32,
-        demands_length: usize,
-        trace: *mut u8,
-        trace_room: usize,
-        histories: *mut History,
-        histories_room: usize,
-        answers: *mut i64,
-        answers_room: usize,
-    ) -> u32;
-}
 
 // ---- lent buffers
 
@@ -86,25 +71,15 @@ fn solver_answer(day: &Day, buffers: &mut Buffers) -> u32 {
 /// Makes one call both ways. Gives the library's answer and buffers, or an error that tells the difference.
 fn compare(day: &Day, random: &mut Random) -> Result<(u32, Buffers), String> {
     let before = Buffers::new(day, random);
-    let (mut by_library, mut by_solver) = (before.clone(), before.clone());
-    let library = library_answer(&mut by_library);
-    let solver = solver_answer(day, &mut by_solver);
-    if library != solver || by_library != by_solver {
-        return Err(difference(day, (library, &by_library), (solver, &by_solver)));
-    }
-    if refusal(library).is_some() && by_library != before {
-        return Err(difference(day, (library, &by_library), (solver, &before)));
-    }
-    Ok((library, by_library))
+    compared(&before, library_answer, |buffers| solver_answer(day, buffers), refusal, difference)
 }
 
-fn difference(day: &Day, library: (u32, &Buffers), solver: (u32, &Buffers)) -> String {
-    let mut text = format!("{}the library returns {}, the solver {}\n", input_text(day), library.0, solver.0);
-    text += &difference_of("input bytes", &library.1.file, &solver.1.file);
-    text += &difference_of("demands", &library.1.demands, &solver.1.demands);
-    text += &difference_of("trace", &library.1.trace, &solver.1.trace);
-    text += &difference_of("histories", &library.1.histories, &solver.1.histories);
-    text += &difference_of("answers", &library.1.answers, &solver.1.answers);
+fn difference(library: &Buffers, solver: &Buffers) -> String {
+    let mut text = difference_of("input bytes", &library.file, &solver.file);
+    text += &difference_of("demands", &library.demands, &solver.demands);
+    text += &difference_of("trace", &library.trace, &solver.trace);
+    text += &difference_of("histories", &library.histories, &solver.histories);
+    text += &difference_of("answers", &library.answers, &solver.answers);
     text
 }
 
@@ -135,16 +110,6 @@ fn dispatched_slots(day: &Day) -> Vec<Slot> {
         }
     }
     slots
-}
-
-fn dispatch(file: &[u8]) -> Result<Reply, Refused> {
-    let mut reply = [0; 92];
-    // Both pointers are those of lists that live on, with their lengths.
-    let number = unsafe { shahfureel_dispatch(file.as_ptr(), file.len(), reply.as_mut_ptr(), reply.len()) };
-    if number < 30 {
-        return Err(Refused(number));
-    }
-    Ok(solver::decode_reply(&reply[..number as usize]))
 }
 
 fn set_previous(file: &mut [u8], outputs: &[i128]) {
@@ -208,7 +173,7 @@ struct Days {
 impl Days {
     fn calls(&mut self, days: &[Day], random: &mut Random) -> Result<(), String> {
         for day in days {
-            let (number, mut buffers) = compare(day, random)?;
+            let (number, mut buffers) = compare(day, random).map_err(|text| input_text(day) + &text)?;
             let refused = refusal(number);
             let slots = if refused.is_none() { dispatched_slots(day) } else { vec![] };
             if refused.is_none() {
@@ -240,14 +205,14 @@ impl Comparison for Days {
 
     fn print(&self) {
         println!("{} calls of {} cases compared, {} slots dispatched", self.numbers.total(), self.cases, self.slots);
-        for line in self.numbers.lines("day").iter().chain(&self.reached.lines()) {
+        for line in self.numbers.lines("day").iter().chain(&self.reached.0.lines()) {
             println!("{}", line);
         }
     }
 
     fn assert_complete(&self) {
         self.numbers.assert_complete("day", POSSIBLE_OF_DAYS);
-        self.reached.assert_complete();
+        self.reached.0.assert_complete();
     }
 }
 

@@ -257,7 +257,7 @@ fn set_any_window(unit: &mut Unit, random: &mut Random) {
 }
 
 /// Gives a unit a ramp window, or steps that have no effect as the previous output is 0, or neither.
-fn maybe_set_window(unit: &mut Unit, random: &mut Random) {
+pub fn maybe_set_window(unit: &mut Unit, random: &mut Random) {
     if random.chance(2) {
         set_any_window(unit, random);
     } else if random.chance(2) {
@@ -528,7 +528,7 @@ fn shared_edges(random: &mut Random, edition: i128) -> Vec<Call> {
 }
 
 /// Lets some neighbouring zones, or all, share an edge.
-fn share_edges(unit: &mut Unit, random: &mut Random) {
+pub fn share_edges(unit: &mut Unit, random: &mut Random) {
     let all = random.chance(2);
     for zone in 1..unit.zones.len() {
         if all || random.chance(2) {

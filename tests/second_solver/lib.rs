@@ -1,6 +1,8 @@
-//! The second solver and its test cases, shared by the four programs.
+//! The second solver and its test cases, shared by the five programs.
 
 pub mod branches;
+pub mod budgeted;
+pub mod budgets;
 pub mod calls;
 pub mod damage;
 pub mod demands;
@@ -8,11 +10,14 @@ pub mod floored;
 pub mod generate;
 pub mod judged;
 pub mod lent;
+pub mod library;
 pub mod lowered;
+pub mod misread;
 pub mod outputs;
 pub mod program;
 pub mod promise;
 pub mod random;
+pub mod refined;
 pub mod runs;
 pub mod slots;
 pub mod slotted;

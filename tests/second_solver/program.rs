@@ -12,7 +12,9 @@ pub trait Comparison: Default {
     const LEAST_CASES: u64;
 
     /// Makes what is stated, amid random elements of a seed.
-    fn stated(&mut self, seed: u64) -> Result<(), String>;
+    fn stated(&mut self, _seed: u64) -> Result<(), String> {
+        Ok(())
+    }
     /// Makes the case of a seed.
     fn case(&mut self, seed: u64) -> Result<(), String>;
     fn print(&self);
@@ -23,6 +25,31 @@ pub trait Comparison: Default {
 /// A refusal by the number that a call returns; none for 0.
 pub fn refusal(number: u32) -> Option<Refused> {
     Some(Refused(number)).filter(|_| number > 0)
+}
+
+/// The same of a call that returns a length; none from 30 on.
+pub fn refusal_or_length(number: u32) -> Option<Refused> {
+    Some(Refused(number)).filter(|_| number < 30)
+}
+
+/// Makes a call by the library and by the solver in equal buffers. Gives the library's number and buffers, or an error that tells how
+/// they differ; a refusal has to leave the buffers as they were.
+pub fn compared<B: Clone + PartialEq>(
+    before: &B,
+    library: impl FnOnce(&mut B) -> u32,
+    solver: impl FnOnce(&mut B) -> u32,
+    refusal: impl FnOnce(u32) -> Option<Refused>,
+    difference: impl FnOnce(&B, &B) -> String,
+) -> Result<(u32, B), String> {
+    let (mut by_library, mut by_solver) = (before.clone(), before.clone());
+    let (number, expected) = (library(&mut by_library), solver(&mut by_solver));
+    if refusal(expected).is_some() {
+        by_solver = before.clone();
+    }
+    if number == expected && by_library == by_solver {
+        return Ok((number, by_library));
+    }
+    Err(format!("the library returns {}, the solver {}\n{}", number, expected, difference(&by_library, &by_solver)))
 }
 
 fn exit_if_wrong(result: Result<(), String>, which: &str) {

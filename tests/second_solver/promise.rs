@@ -1,9 +1,11 @@
 //! Demand 3, and what is promised of judgements and of floors for other demands, by brute force: all allocations of a small case, and
-//! all multipliers from 0 to 65,536. Of two demands of one case, that the greater is never cheaper. And what is promised of a run at
-//! every moment since its start.
+//! all multipliers from 0 to 65,536. Of two demands of one case, that the greater is never cheaper. What is promised of a run at
+//! every moment since its start. And of searches within budgets: all allocations of a small case, and of two budgets that the larger
+//! one has neither a greater cost nor a greater gap.
 
 use crate::calls::{Answer, Operation};
 use crate::hex;
+use crate::refined::{self, Refined};
 use crate::solver::{self, Allocation, Case, Judged, Offer, Problem, Refused, Reply, Run, Search, State, ZEROS};
 
 /// Whether a case is small enough: how many allocations it has, and how many permitted outputs for each multiplier to try.
@@ -589,4 +591,142 @@ fn broken_change(operation: &Operation, before: &Run, answer: &Answer, after: &R
         (!is_advance || state == State::NotStarted || !not_started, "a started run is advanced"),
     ];
     sentences.iter().find(|(holds, _)| !holds).map(|(_, sentence)| *sentence)
+}
+
+// ---- searches within a budget
+
+/// What is known of a case that dispatch answers: its permitted outputs, dispatch's reply and the replies so far by their budgets. Of
+/// a small case the least cost of the allocations that cover, too.
+struct Budgeted {
+    problem: Problem,
+    dispatched: Reply,
+    cheapest: Option<i128>,
+    replies: Vec<(u32, Vec<u8>)>,
+}
+
+impl Budgeted {
+    /// The first sentence that a reply breaks.
+    fn broken_sentence(&self, budget: u32, reply: &Refined) -> Option<&'static str> {
+        let allocation = match permitted_allocation(&self.problem.offers, &reply.outputs) {
+            Some(allocation) => allocation,
+            None => return Some("the outputs are permitted"),
+        };
+        let dispatched = &self.dispatched;
+        let of_dispatch = (dispatched.cost, dispatched.gap, dispatched.surplus, &dispatched.outputs);
+        let is_bounded = |cheapest: i128| cheapest >= reply.cost - reply.gap;
+        let is_optimal = |cheapest: i128| reply.gap > 0 || reply.cost == cheapest;
+        let sentences = [
+            (solver::total_net(&allocation) >= self.problem.demand_net, "the outputs cover the demand"),
+            (solver::total_cost(&allocation) == reply.cost, "the cost is exact"),
+            (solver::total_net(&allocation) - self.problem.demand_net == reply.surplus, "the surplus is exact"),
+            (reply.gap <= reply.cost, "the gap is at most the cost"),
+            (self.cheapest.map_or(true, is_bounded), "nobody spends less than cost - gap"),
+            (self.cheapest.map_or(true, is_optimal), "without a gap nobody spends less"),
+            (1 <= reply.nodes && reply.nodes <= i128::from(budget), "the nodes are 1 to the budget"),
+            (
+                budget > 1 || (reply.cost, reply.gap, reply.surplus, &reply.outputs) == of_dispatch,
+                "a budget of 1 has dispatch's outputs, cost, gap and surplus",
+            ),
+            (reply.cost <= dispatched.cost && reply.gap <= dispatched.gap, "neither cost nor gap is above dispatch's"),
+        ];
+        sentences.iter().find(|(holds, _)| !holds).map(|(_, sentence)| *sentence)
+    }
+
+    /// The first sentence that a reply breaks beside an earlier one for the same file.
+    fn broken_pair(&self, budget: u32, bytes: &[u8]) -> Option<&'static str> {
+        let ordered = |(other, reply): &(u32, Vec<u8>)| {
+            let (one, two) = ((*other, &reply[..]), (budget, bytes));
+            broken_order_of_budgets(one.min(two), one.max(two))
+        };
+        self.replies.iter().find_map(ordered)
+    }
+}
+
+fn broken_order_of_budgets(smaller: (u32, &[u8]), larger: (u32, &[u8])) -> Option<&'static str> {
+    let [less, more] = [smaller.1, larger.1].map(refined::decode);
+    let is_ended = less.nodes < i128::from(smaller.0);
+    let sentences = [
+        (more.cost <= less.cost, "a larger budget does not raise the cost"),
+        (more.gap <= less.gap, "a larger budget does not raise the gap"),
+        (more.nodes >= less.nodes, "a larger budget has no fewer nodes"),
+        (!is_ended || smaller.1 == larger.1, "fewer nodes than the budget: a larger one gives the same bytes"),
+        (smaller.0 != larger.0 || smaller.1 == larger.1, "equal budgets give the same bytes"),
+    ];
+    sentences.iter().find(|(holds, _)| !holds).map(|(_, sentence)| *sentence)
+}
+
+/// Checks searches within budgets. It keeps what it found of the last file, as the budgets for one file follow one another.
+#[derive(Default)]
+pub struct Refinements {
+    last: Option<(Vec<u8>, Budgeted)>,
+    checked: u64,
+    by_brute_force: u64,
+    optimal: u64,
+    pairs: u64,
+    nothing_covers: u64,
+}
+
+impl Refinements {
+    /// Checks every sentence for an accepted file, a budget and the answer, beside dispatch's answer. An error has the sentence that
+    /// fails, and both answers.
+    pub fn check(
+        &mut self,
+        file: &[u8],
+        budget: u32,
+        answer: Result<&[u8], Refused>,
+        dispatched: Result<Reply, Refused>,
+        is_small: bool,
+    ) -> Result<(), String> {
+        let broken = match (&answer, &dispatched) {
+            (Ok(bytes), Ok(reply)) => self.broken_reply(file, budget, bytes, reply, is_small),
+            (Err(Refused(11)), Err(Refused(11))) => self.broken_refusal(file, is_small),
+            _ => Some("11 exactly where dispatch gives it"),
+        };
+        broken.map_or(Ok(()), |sentence| {
+            Err(format!("not so: {}\nanswer {:?}\ndispatch {:?}", sentence, answer.map(refined::decode), dispatched))
+        })
+    }
+
+    fn broken_reply(&mut self, file: &[u8], budget: u32, bytes: &[u8], dispatched: &Reply, is_small: bool) -> Option<&'static str> {
+        let reply = refined::decode(bytes);
+        let mut budgeted = self.take(file, dispatched, is_small);
+        let broken = budgeted.broken_sentence(budget, &reply).or_else(|| budgeted.broken_pair(budget, bytes));
+        self.checked += 1;
+        self.by_brute_force += u64::from(budgeted.cheapest.is_some());
+        self.optimal += u64::from(budgeted.cheapest.is_some() && reply.gap == 0 && reply.nodes > 1);
+        self.pairs += budgeted.replies.len() as u64;
+        budgeted.replies.push((budget, bytes.to_vec()));
+        self.last = Some((file.to_vec(), budgeted));
+        broken
+    }
+
+    /// What is known of the last file, if that is this one, or else found of this one.
+    fn take(&mut self, file: &[u8], dispatched: &Reply, is_small: bool) -> Budgeted {
+        let find = || {
+            let problem = solver::problem(&solver::decode(file).expect("an accepted file")).expect("an answered case");
+            let cheapest = if is_small { cheapest_covering(&problem.offers, problem.demand_net) } else { None };
+            Budgeted { problem, dispatched: dispatched.clone(), cheapest, replies: vec![] }
+        };
+        self.last.take().filter(|(of_file, _)| of_file == file).map_or_else(find, |(_, budgeted)| budgeted)
+    }
+
+    fn broken_refusal(&mut self, file: &[u8], is_small: bool) -> Option<&'static str> {
+        let case = solver::decode(file).expect("an accepted file");
+        let offers: Vec<Vec<Offer>> = case.units.iter().map(solver::offers).collect();
+        self.nothing_covers += u64::from(is_small);
+        let covers = is_small && cheapest_covering(&offers, solver::NET_OF_A_STEP * case.demand).is_some();
+        Some("11 only where nothing covers").filter(|_| covers)
+    }
+
+    pub fn line(&self) -> String {
+        format!(
+            "{} replies and {} pairs of budgets checked; by brute force {} replies, {} of several nodes without a gap, and {} refusals with 11",
+            self.checked, self.pairs, self.by_brute_force, self.optimal, self.nothing_covers
+        )
+    }
+
+    pub fn assert_complete(&self) {
+        let counts = [self.by_brute_force, self.optimal, self.pairs, self.nothing_covers];
+        assert!(counts.iter().all(|count| *count > 0), "a kind of check is missing: {}", self.line());
+    }
 }

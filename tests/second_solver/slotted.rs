@@ -3,6 +3,7 @@
 use crate::calls::Day;
 use crate::generate::capacity;
 use crate::solver::{self, Case, Refused, Reply, Unit, SLOT};
+use crate::tally::Branches;
 
 /// A slot of an answered call: its own case, and what dispatch gives for it.
 pub struct Slot {
@@ -403,28 +404,16 @@ impl Seen<'_> {
 }
 
 /// How often calls came to each branch.
-pub struct Reached([u64; BRANCHES.len()]);
+pub struct Reached(pub Branches);
 
 impl Default for Reached {
     fn default() -> Reached {
-        Reached([0; BRANCHES.len()])
+        Reached(Branches::new(BRANCHES.iter().map(|(name, _)| name.to_string()).collect()))
     }
 }
 
 impl Reached {
     pub fn count(&mut self, seen: &Seen) {
-        for (count, (_, reached)) in self.0.iter_mut().zip(BRANCHES) {
-            *count += u64::from(reached(seen));
-        }
-    }
-
-    pub fn lines(&self) -> Vec<String> {
-        BRANCHES.iter().zip(&self.0).map(|((name, _), count)| format!("{}: {}", name, count)).collect()
-    }
-
-    pub fn assert_complete(&self) {
-        for ((name, _), count) in BRANCHES.iter().zip(&self.0) {
-            assert!(*count > 0, "no call came to: {}", name);
-        }
+        self.0.count(BRANCHES.iter().map(|(_, reached)| reached(seen)).collect());
     }
 }

@@ -8,7 +8,7 @@ pub const COST_SCALE: i128 = 100_000;
 #[derive(Clone, Copy, Debug, PartialEq, Eq)]
 pub struct Refused(pub u32);
 
-fn refuse_if(condition: bool, number: u32) -> Result<(), Refused> {
+pub fn refuse_if(condition: bool, number: u32) -> Result<(), Refused> {
     if condition {
         Err(Refused(number))
     } else {
@@ -344,8 +344,11 @@ pub struct Problem {
 
 /// Step 1.
 pub fn problem(case: &Case) -> Result<Problem, Refused> {
-    let demand_net = NET_OF_A_STEP * case.demand;
-    let offers: Vec<Vec<Offer>> = case.units.iter().map(offers).collect();
+    problem_of(case.units.iter().map(offers).collect(), NET_OF_A_STEP * case.demand)
+}
+
+/// Step 1 of units with these permitted outputs, rising.
+pub fn problem_of(offers: Vec<Vec<Offer>>, demand_net: i128) -> Result<Problem, Refused> {
     let greatest: Option<Allocation> = offers.iter().map(|unit| unit.last().copied()).collect();
     match greatest {
         Some(greatest) if total_net(&greatest) >= demand_net => Ok(Problem { demand_net, offers, greatest }),
@@ -434,7 +437,7 @@ pub struct Search {
 
 impl Search {
     /// The greatest floor of all evaluations. Demand 3 says that no other multiplier has a greater one.
-    fn greatest_floor(&self) -> i128 {
+    pub fn greatest_floor(&self) -> i128 {
         self.visits.iter().map(|(_, evaluation)| floor(evaluation.dual)).max().expect("an evaluation")
     }
 
@@ -442,6 +445,12 @@ impl Search {
     pub fn greatest_floor_moved(&self, steps: i128) -> i128 {
         let moved = |(multiplier, evaluation): &(i128, Evaluation)| floor(evaluation.dual + multiplier * NET_OF_A_STEP * steps);
         self.visits.iter().map(moved).max().expect("an evaluation")
+    }
+
+    /// The best before it was lowered, where some multiplier's choices cover.
+    pub fn unlowered(&self, problem: &Problem) -> Option<&Allocation> {
+        let choices = self.visits.iter().rev().map(|(_, evaluation)| &evaluation.choices);
+        choices.into_iter().find(|choices| problem.surplus(choices) >= 0)
     }
 
     /// Evaluates a multiplier and takes its lowered choices as the best if they cover; tells their surplus.
@@ -480,9 +489,8 @@ pub fn search(problem: &Problem) -> Search {
 /// The outputs of the best before they were lowered, where some multiplier's choices cover.
 pub fn unlowered(case: &Case) -> Option<Vec<i128>> {
     let problem = problem(case).ok()?;
-    let visits = search(&problem).visits;
-    let covering = visits.iter().rev().find(|(_, evaluation)| problem.surplus(&evaluation.choices) >= 0);
-    covering.map(|(_, evaluation)| evaluation.choices.iter().map(|offer| offer.output).collect())
+    let search = search(&problem);
+    search.unlowered(&problem).map(|choices| choices.iter().map(|offer| offer.output).collect())
 }
 
 // ---- the reply
@@ -510,13 +518,18 @@ pub fn solve(case: &Case) -> Result<Reply, Refused> {
 }
 
 pub fn encode_reply(reply: &Reply) -> Vec<u8> {
+    encode_counted(reply.evaluations, 2, [reply.cost, reply.gap, reply.surplus], &reply.outputs)
+}
+
+/// The number of units, a count of so many bytes, the amounts and the outputs.
+pub fn encode_counted(count: i128, width: usize, amounts: [i128; 3], outputs: &[i128]) -> Vec<u8> {
     let mut bytes = Vec::new();
-    put(&mut bytes, reply.outputs.len() as i128, 2);
-    put(&mut bytes, reply.evaluations, 2);
-    put(&mut bytes, reply.cost, 8);
-    put(&mut bytes, reply.gap, 8);
-    put(&mut bytes, reply.surplus, 8);
-    for output in &reply.outputs {
+    put(&mut bytes, outputs.len() as i128, 2);
+    put(&mut bytes, count, width);
+    for amount in amounts {
+        put(&mut bytes, amount, 8);
+    }
+    for output in outputs {
         put(&mut bytes, *output, 2);
     }
     bytes
@@ -924,7 +937,7 @@ pub fn view(reply: &[u8], request: &[u8], answer: &mut [u8]) -> Result<usize, Re
 
 // ---- the C forms
 
-fn number_of(answer: Result<usize, Refused>) -> u32 {
+pub fn number_of(answer: Result<usize, Refused>) -> u32 {
     match answer {
         Ok(length) => length as u32,
         Err(Refused(number)) => number,

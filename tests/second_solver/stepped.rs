@@ -2,7 +2,7 @@
 
 use crate::calls::{Answer, Operation};
 use crate::solver::{self, Held, Numbers, Progress, Refused, Run, State, EMPTY, GREATEST_IN_RUN, ZEROS};
-use crate::tally::POSSIBLE_OF_STARTS;
+use crate::tally::{Branches, POSSIBLE_OF_STARTS};
 
 /// An operation, its answer, the run's numbers before and after it, and the bytes that were held before it.
 pub struct Seen<'a> {
@@ -438,12 +438,17 @@ fn made_by(operation: &Operation, before: &Numbers, after: &Numbers) -> Option<M
 }
 
 /// How often operations came to each branch.
-#[derive(Default)]
 pub struct Stepped {
     past: Past,
     /// The file of the last accepted start, if nothing was put into the run since.
     own: Option<Vec<u8>>,
-    counts: Vec<u64>,
+    pub branches: Branches,
+}
+
+impl Default for Stepped {
+    fn default() -> Stepped {
+        Stepped { past: Past::default(), own: None, branches: Branches::new(names()) }
+    }
 }
 
 impl Stepped {
@@ -451,25 +456,12 @@ impl Stepped {
         let (held, before, after) = (&before.held, &before.numbers, &after.numbers);
         let (fault, made) = (fault_of(operation), made_by(operation, before, after));
         let reached = Seen { operation, answer, before, after, held, past: &self.past, fault, made }.reached();
-        self.counts.resize(reached.len(), 0);
-        for (count, reached) in self.counts.iter_mut().zip(reached) {
-            *count += u64::from(reached);
-        }
+        self.branches.count(reached);
         match (operation, answer) {
             (Operation::Put(..), _) => (self.past.older, self.own) = (None, None),
             (Operation::Start(file), Answer::Started(Ok(()))) => self.past.older = self.own.replace(file.clone()),
             _ => {}
         }
         self.past.last = Some((operation.clone(), answer.clone()));
-    }
-
-    pub fn lines(&self) -> Vec<String> {
-        names().iter().zip(&self.counts).map(|(name, count)| format!("{}: {}", name, count)).collect()
-    }
-
-    pub fn assert_complete(&self) {
-        for (name, count) in names().iter().zip(&self.counts) {
-            assert!(*count > 0, "no operation came to: {}", name);
-        }
     }
 }

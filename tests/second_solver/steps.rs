@@ -5,7 +5,8 @@
 use second_solver::calls::Operation::{self, Advance, Ask, Put, Start};
 use second_solver::hex;
 use second_solver::lent::{difference_of, random_byte, random_i64, random_u64, Lent};
-use second_solver::program::{self, refusal, Comparison};
+use second_solver::library::{shahfureel_run_advance, shahfureel_run_ask, shahfureel_run_start};
+use second_solver::program::{self, compared, refusal, Comparison};
 use second_solver::promise::{self, Runs};
 use second_solver::random::Random;
 use second_solver::runs::KINDS;
@@ -14,19 +15,6 @@ use second_solver::stepped::Stepped;
 use second_solver::tally::{Numbers, POSSIBLE_OF_ADVANCES_IN_C, POSSIBLE_OF_ASKS_IN_C, POSSIBLE_OF_STARTS};
 
 const MOST_ALLOCATIONS: usize = 20_000;
-
-extern "C" {
-    fn shahfureel_run_start(numbers: *mut u64, held: *mut u8, file: *const u8, file_length: usize) -> u32;
-    fn shahfureel_run_advance(
-        numbers: *mut u64,
-        held: *const u8,
-        file: *const u8,
-        file_length: usize,
-        answers: *mut i64,
-        answers_length: usize,
-    ) -> u32;
-    fn shahfureel_run_ask(numbers: *const u64, answers: *mut i64, answers_length: usize) -> u32;
-}
 
 // ---- lent buffers
 
@@ -119,26 +107,19 @@ fn solver_answer(operation: &Operation, buffers: &mut Buffers) -> u32 {
 
 /// Makes one operation both ways. Gives the library's number, or an error that tells the difference.
 fn compare(operation: &Operation, buffers: &mut Buffers) -> Result<u32, String> {
-    let before = buffers.clone();
-    let mut by_solver = before.clone();
-    let library = library_answer(operation, buffers);
-    let solver = solver_answer(operation, &mut by_solver);
-    if library != solver || *buffers != by_solver {
-        return Err(difference(operation, before, (library, buffers), (solver, &by_solver)));
-    }
-    if refusal(library).is_some() && *buffers != before {
-        return Err(difference(operation, before.clone(), (library, buffers), (solver, &before)));
-    }
-    Ok(library)
+    let by_library = |buffers: &mut Buffers| library_answer(operation, buffers);
+    let by_solver = |buffers: &mut Buffers| solver_answer(operation, buffers);
+    let (number, after) =
+        compared(buffers, by_library, by_solver, refusal, difference).map_err(|text| input_text(operation, buffers) + &text)?;
+    *buffers = after;
+    Ok(number)
 }
 
-fn difference(operation: &Operation, mut before: Buffers, library: (u32, &Buffers), solver: (u32, &Buffers)) -> String {
-    let mut text = input_text(operation, &mut before);
-    text += &format!("the library returns {}, the solver {}\n", library.0, solver.0);
-    text += &difference_of("numbers", &library.1.numbers, &solver.1.numbers);
-    text += &difference_of("held bytes", &library.1.held, &solver.1.held);
-    text += &difference_of("input bytes", &library.1.file, &solver.1.file);
-    text += &difference_of("answers", &library.1.answers, &solver.1.answers);
+fn difference(library: &Buffers, solver: &Buffers) -> String {
+    let mut text = difference_of("numbers", &library.numbers, &solver.numbers);
+    text += &difference_of("held bytes", &library.held, &solver.held);
+    text += &difference_of("input bytes", &library.file, &solver.file);
+    text += &difference_of("answers", &library.answers, &solver.answers);
     text
 }
 
@@ -236,7 +217,7 @@ impl Comparison for Steps {
         println!("{} operations of {} lists compared", operations, self.lists);
         println!("{}", self.promises.line());
         let counts = [self.starts.lines("start"), self.advances.lines("advance"), self.asks.lines("ask")];
-        for line in counts.concat().iter().chain(&self.stepped.lines()) {
+        for line in counts.concat().iter().chain(&self.stepped.branches.lines()) {
             println!("{}", line);
         }
     }
@@ -245,7 +226,7 @@ impl Comparison for Steps {
         self.starts.assert_complete("start", POSSIBLE_OF_STARTS);
         self.advances.assert_complete("advance", POSSIBLE_OF_ADVANCES_IN_C);
         self.asks.assert_complete("ask", POSSIBLE_OF_ASKS_IN_C);
-        self.stepped.assert_complete();
+        self.stepped.branches.assert_complete();
     }
 }
 

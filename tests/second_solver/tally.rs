@@ -38,9 +38,12 @@ pub const POSSIBLE_OF_ADVANCES: &[usize] = &[2, 3, 4, 5, 6, 7, 8, 9, 10, 11, 18,
 pub const POSSIBLE_OF_ADVANCES_IN_C: &[usize] = &[1, 2, 3, 4, 5, 6, 7, 8, 9, 10, 11, 18, 24];
 pub const POSSIBLE_OF_ASKS_IN_C: &[usize] = &[1];
 
+/// The numbers that a search within a budget can give.
+pub const POSSIBLE_OF_REFINES: &[usize] = &[1, 2, 3, 4, 5, 6, 7, 8, 9, 10, 11, 18, 25];
+
 /// Counts of one call by number; number 0 stands for an answer.
 #[derive(Default)]
-pub struct Numbers([u64; 25]);
+pub struct Numbers([u64; 26]);
 
 impl Numbers {
     pub fn count(&mut self, refused: Option<Refused>) {
@@ -66,6 +69,33 @@ impl Numbers {
         assert!(self.0[0] > 0, "{} was never answered", name);
         for number in possible {
             assert!(self.0[*number] > 0, "{} was never refused with {}", name, number);
+        }
+    }
+}
+
+/// How often each branch was reached, by its name.
+pub struct Branches(Vec<(String, u64)>);
+
+impl Branches {
+    pub fn new(names: Vec<String>) -> Branches {
+        Branches(names.into_iter().map(|name| (name, 0)).collect())
+    }
+
+    /// Counts the branches that are reached; one is told of each, in the order of the names.
+    pub fn count(&mut self, reached: Vec<bool>) {
+        assert_eq!(reached.len(), self.0.len(), "branches told");
+        for ((_, count), reached) in self.0.iter_mut().zip(reached) {
+            *count += u64::from(reached);
+        }
+    }
+
+    pub fn lines(&self) -> Vec<String> {
+        self.0.iter().map(|(name, count)| format!("{}: {}", name, count)).collect()
+    }
+
+    pub fn assert_complete(&self) {
+        for (name, count) in &self.0 {
+            assert!(*count > 0, "no call came to: {}", name);
         }
     }
 }

@@ -3,6 +3,7 @@
 use crate::calls::Operation::{self, Advance, Start};
 use crate::calls::{Answer, Day};
 use crate::hex;
+use crate::refined::{self, Refined, Rules, PAPER, ROOM};
 use crate::solver::{self, Case, History, Judged, Numbers, Priced, Refused, Reply, Run, State, Unit, EMPTY};
 
 /// The file of case U5 (rule 15.5).
@@ -15,6 +16,9 @@ const U5_IN_EDITION_2: &str = "0002000100000005000c0022000000000000271003e800000
 
 /// The reply to U5.
 const U5_REPLY: &str = "00010012000000000001d0d8000000000000a410000000000bebc2000007";
+
+/// The reply to U5 searched with a budget of 5.
+const U5_REFINED: &str = "000100000005000000000001d0d80000000000000000000000000bebc2000007";
 
 /// Unit U of the specification.
 pub fn u() -> Unit {
@@ -1173,6 +1177,119 @@ fn check_steppings() -> usize {
     steppings.len() + changed_runs.len() + check_watched()
 }
 
+/// A search within a budget, by the letters of its units, its demand and its budget, and the answer that is stated for it.
+pub struct Refinement {
+    pub name: &'static str,
+    pub file: Vec<u8>,
+    pub budget: u32,
+    pub room: usize,
+    expected: Result<Refined, Refused>,
+}
+
+impl Refinement {
+    /// The reply's bytes by these rules.
+    pub fn answer(&self, rules: &Rules) -> Result<Vec<u8>, Refused> {
+        refined::refine(&self.file, self.budget, self.room, rules).map(|search| search.reply())
+    }
+}
+
+fn refinement(name: &'static str, units: &[Unit], demand: i128, budget: u32, numbers: [i128; 4], outputs: &[i128]) -> Refinement {
+    let file = solver::encode(&Case { edition: 1, demand, units: units.to_vec() });
+    let [nodes, cost, gap, surplus] = numbers;
+    Refinement { name, file, budget, room: ROOM, expected: Ok(Refined { nodes, cost, gap, surplus, outputs: outputs.to_vec() }) }
+}
+
+fn unrefined(name: &'static str, file: &[u8], budget: u32, room: usize, number: u32) -> Refinement {
+    Refinement { name, file: file.to_vec(), budget, room, expected: Err(Refused(number)) }
+}
+
+/// The stated searches within a budget; `misread` has the wrong rules that they tell apart.
+pub fn refinements() -> Vec<Refinement> {
+    let u = u();
+    let c = with_c0(6_000);
+    let m = u_must_run();
+    let a = Unit { zones: vec![(4, 5)], ..u.clone() };
+    let r = Unit { previous: 9, up: 1, down: 1, ..u.clone() };
+    let s = sharing();
+    let [d, h, k] = [20_000, 500_000_000, 1_000_000_000].map(with_c0);
+    let n = Unit { zones: vec![], ..m.clone() };
+    let p = Unit { c1: 0, mark: 1, ..s.clone() };
+    let q = Unit { c0: 20_000, c2: 0, ..n.clone() };
+    let x = Unit { previous: 20, ..u.clone() };
+    let (one, two, three) = ([u.clone()], [u.clone(), u.clone()], [u.clone(), u.clone(), u.clone()]);
+    let mut rows = vec![
+        refinement("U 5,1", &one, 5, 1, [1, 119_000, 42_000, 200_000_000], &[7]),
+        refinement("U 5,3", &one, 5, 3, [3, 119_000, 42_000, 200_000_000], &[7]),
+        refinement("U 5,4", &one, 5, 4, [4, 119_000, 42_000, 200_000_000], &[7]),
+        refinement("U 5,5", &one, 5, 5, [5, 119_000, 0, 200_000_000], &[7]),
+        refinement("U 5,100", &one, 5, 100, [5, 119_000, 0, 200_000_000], &[7]),
+        refinement("U 5,65536", &one, 5, 65_536, [5, 119_000, 0, 200_000_000], &[7]),
+        refinement("U 5,100000", &one, 5, 100_000, [5, 119_000, 0, 200_000_000], &[7]),
+        refinement("U 1,4", &one, 1, 4, [3, 24_000, 0, 100_000_000], &[2]),
+        refinement("U 3,2", &one, 3, 2, [1, 39_000, 0, 0], &[3]),
+        refinement("C 1,2", &[c.clone()], 1, 2, [2, 45_000, 30_000, 200_000_000], &[3]),
+        refinement("UU 9,1", &two, 9, 1, [1, 175_000, 42_000, 200_000_000], &[4, 7]),
+        refinement("UU 9,2", &two, 9, 2, [2, 171_000, 38_000, 0], &[0, 9]),
+        refinement("UU 9,5", &two, 9, 5, [5, 171_000, 38_000, 0], &[0, 9]),
+        refinement("UU 9,9", &two, 9, 9, [9, 143_000, 0, 0], &[2, 7]),
+        refinement("UU 3,2", &two, 3, 2, [2, 39_000, 3_000, 0], &[0, 3]),
+        refinement("UU 3,5", &two, 3, 5, [5, 39_000, 3_000, 0], &[0, 3]),
+        refinement("UU 12,4", &two, 12, 4, [4, 200_000, 4_000, 0], &[4, 8]),
+        refinement("UC 3,6", &[u.clone(), c.clone()], 3, 6, [6, 39_000, 0, 0], &[3, 0]),
+        refinement("AM 10,4", &[a, m], 10, 4, [4, 175_000, 23_000, 100_000_000], &[4, 7]),
+        refinement("RU 9,5", &[r, u.clone()], 9, 5, [5, 168_000, 0, 100_000_000], &[8, 2]),
+        refinement("UUU 14,13", &three, 14, 13, [13, 214_000, 0, 0], &[3, 4, 7]),
+        refinement("HK 15,20", &[h, k], 15, 20, [7, 1_500_263_000, 0, 0], &[7, 8]),
+        refinement("S 5,1", &[s.clone()], 5, 1, [1, 119_000, 42_000, 200_000_000], &[7]),
+        refinement("S 5,4", &[s.clone()], 5, 4, [4, 119_000, 42_000, 200_000_000], &[7]),
+        refinement("S 5,5", &[s.clone()], 5, 5, [5, 119_000, 0, 200_000_000], &[7]),
+        refinement("SS 9,9", &[s.clone(), s], 9, 9, [9, 143_000, 0, 0], &[2, 7]),
+        // more load may be cheaper within a budget
+        refinement("DU 6,3", &[d.clone(), u.clone()], 6, 3, [3, 119_000, 25_000, 100_000_000], &[0, 7]),
+        refinement("DU 7,3", &[d, u.clone()], 7, 3, [3, 115_000, 0, 0], &[3, 4]),
+        // a first unit of one region; one that may only stand
+        refinement("NU 10,5", &[n, u.clone()], 10, 5, [5, 152_000, 0, 0], &[6, 4]),
+        refinement("XU 5,4", &[x, u.clone()], 5, 4, [4, 119_000, 42_000, 200_000_000], &[0, 7]),
+        // a gap that no budget closes: the least floor is that of a node of single regions
+        refinement("Q 3,1", &[q.clone()], 3, 1, [1, 120_000, 70_000, 700_000_000], &[10]),
+        refinement("CQ 9,4", &[c, q.clone()], 9, 4, [3, 120_000, 10_000, 100_000_000], &[0, 10]),
+        refinement("UQ 11,3", &[u.clone(), q.clone()], 11, 3, [3, 144_000, 10_000, 100_000_000], &[2, 10]),
+        refinement("PQ 13,3", &[p.clone(), q.clone()], 13, 3, [3, 136_000, 10_000, 100_000_000], &[4, 10]),
+        refinement("PQ 13,6", &[p, q], 13, 6, [5, 136_000, 10_000, 100_000_000], &[4, 10]),
+    ];
+    rows.extend(refused_refinements());
+    rows
+}
+
+fn refused_refinements() -> Vec<Refinement> {
+    let file = |demand: i128, unit: Unit| solver::encode(&Case { edition: 1, demand, units: vec![unit] });
+    let u5 = solver::encode(&u5());
+    let wrong_edge = file(5, Unit { zones: vec![(2, 7)], ..u() });
+    vec![
+        unrefined("U 5,1 of 93 bytes", &u5, 1, ROOM - 1, 1),
+        unrefined("U 5,0", &u5, 0, ROOM, 25),
+        unrefined("U 5,100001", &u5, 100_001, ROOM, 25),
+        unrefined("U 5,0 of 93 bytes", &u5, 0, ROOM - 1, 1),
+        unrefined("no file,1 of 93 bytes", &[], 1, ROOM - 1, 1),
+        unrefined("no file,0", &[], 0, ROOM, 25),
+        unrefined("no file,1", &[], 1, ROOM, 2),
+        unrefined("wrong edge,0", &wrong_edge, 0, ROOM, 25),
+        unrefined("wrong edge,1", &wrong_edge, 1, ROOM, 9),
+        unrefined("U 11,0", &file(11, u()), 0, ROOM, 25),
+        unrefined("U 11,1", &file(11, u()), 1, ROOM, 11),
+    ]
+}
+
+fn check_refinements() -> usize {
+    let rows = refinements();
+    for row in &rows {
+        assert_eq!(row.answer(&PAPER).map(|bytes| refined::decode(&bytes)), row.expected, "{}", row.name);
+    }
+    let reply = refined::refine(&solver::encode(&u5()), 5, ROOM, &PAPER).map(|search| hex(&search.reply()));
+    assert_eq!(reply, Ok(U5_REFINED.to_string()), "the reply to U5 searched with a budget of 5");
+    rows.len() + 1
+}
+
 /// Asserts every number that is stated; tells how many vectors there are.
 pub fn check() -> usize {
     let u5 = solver::encode(&u5());
@@ -1187,7 +1304,7 @@ pub fn check() -> usize {
         check_vector(vector);
     }
     let of_calls = check_edition_2() + check_judgements() + check_floorings() + check_schedules() + check_steppings();
-    vectors.len() + PRICINGS.len() + VIEWS.len() + of_calls
+    vectors.len() + PRICINGS.len() + VIEWS.len() + of_calls + check_refinements()
 }
 
 /// Asserts what is stated of edition 2 beside its cases; tells how many numbers that is.

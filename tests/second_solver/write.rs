@@ -242,14 +242,14 @@ impl Operations {
     fn lines(&self) -> Vec<String> {
         let mut lines = [self.starts.lines("start"), self.advances.lines("advance")].concat();
         lines.push(format!("ask answered {}", self.asks));
-        lines.extend(self.stepped.lines());
+        lines.extend(self.stepped.branches.lines());
         lines
     }
 
     fn assert_complete(&self) {
         self.starts.assert_complete("start", POSSIBLE_OF_STARTS);
         self.advances.assert_complete("advance", POSSIBLE_OF_ADVANCES);
-        self.stepped.assert_complete();
+        self.stepped.branches.assert_complete();
     }
 }
 

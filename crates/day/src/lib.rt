@@ -7,8 +7,6 @@ ghost use lib.ListN.{length, getD};
 ghost use Rattle.rules.specs.Lists.{over};
 ghost use Rattle.day.specs.Day.{historyAfter, dayVerdict, scheduled, slotBytes};
 ghost use Rattle.day.specs.Contracts.{recordAt, withRecord, copiedOut, copiedBack, blank, columnsAfter, firstColumns, problemWith, SolutionAsks, Solves, slotOf, slotTrace, Turn, turned, slotsAfter, Units, SlotAsks, TurnAsks, Ready, openingOf, endedOf, totalOf};
-use bisection::Allocation;
-use evaluation::FirstBest;
 use rules::Refusal;
 use rules::Verdict;
 use solving::Reply;
@@ -121,50 +119,26 @@ fn solve_slot(file: &[u8], n: usize, previous: &[u16; 32], demand: u32) -> Solut
     let mut coefficients = [0u64; 160];
     let mut ends = [0u16; 384];
     let mut ranges = [0u8; 64];
-    let mut outputs = [0u16; 32];
     if !site::decode_with(file, n, previous, &mut coefficients, &mut ends, &mut ranges) {
         return Solution {
             solved: false,
             cost: 0,
             gap: 0,
-            outputs,
+            outputs: [0u16; 32],
         };
     }
-    let first = evaluation::step1(
-        &coefficients,
-        &ends,
-        &ranges,
-        n,
-        100000000 * demand as u64,
-        &mut outputs,
-    );
-    match first {
-        FirstBest::Refused(_) => Solution {
-            solved: false,
-            cost: 0,
-            gap: 0,
-            outputs,
-        },
-        FirstBest::Found {
-            count: _,
-            target,
-            cost,
-            net,
-        } => {
-            let best = Allocation { outputs, cost, net };
-            let Reply {
-                cost,
-                gap,
-                outputs,
-                ..
-            } = solving::solve(&coefficients, &ends, &ranges, n, target, best);
-            Solution {
-                solved: true,
-                cost,
-                gap,
-                outputs,
-            }
-        }
+    let s = solving::solve_held(&coefficients, &ends, &ranges, n, 100000000 * demand as u64);
+    let Reply {
+        cost,
+        gap,
+        outputs,
+        ..
+    } = s.reply;
+    Solution {
+        solved: s.solvable,
+        cost,
+        gap,
+        outputs,
     }
 }
 

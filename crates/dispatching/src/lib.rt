@@ -10,6 +10,7 @@ mod reply;
 
 use bisection::Allocation;
 use evaluation::FirstBest;
+pub use reply::write_amounts;
 use reply::write_reply;
 use rules::Dispatched;
 use rules::Refusal;

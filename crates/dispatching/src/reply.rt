@@ -1,8 +1,9 @@
-// The reply's bytes: five numbers, and from byte 28 the outputs, written into the lent tail.
+// The reply's bytes: two numbers, and in the lent tail from byte 4 on three amounts and the outputs.
 ghost use mathlib.Core.Path.{_≡_};
 ghost use Prim.Native.Nat.{_+_, _*_, _≤_};
 ghost use lib.ListN.{length, take};
-ghost use Rattle.fields.specs.Field.{bytesOfEach};
+ghost use mathlib.Core.List.{_++_};
+ghost use Rattle.fields.specs.Field.{bytes, bytesOfEach};
 ghost use Rattle.rules.specs.Lists.{over};
 ghost use Rattle.rules.specs.Calls.{replyBytes};
 ghost use Rattle.solving.specs.ReplyHeld.{replyHeld};
@@ -20,6 +21,17 @@ fn write_outputs(s: &mut [u8], outputs: [u16; 32], n: usize)
     }
 }
 
+// Writes cost, gap and surplus, 64 bits each, from the start of `s` on, and behind them the first `n` outputs.
+pub fn write_amounts(s: &mut [u8], n: usize, cost: u64, gap: u64, surplus: u64, outputs: [u16; 32])
+    requires { ⌜ (n ≤ 32) × (24 + 2 * n ≤ length (now s)) ⌝ }
+    ensures { λ _. ⌜ now (s .exit) ≡ over (bytes 8 cost ++ bytes 8 gap ++ bytes 8 surplus ++ bytesOfEach 2 (take n outputs)) (now (s .entry)) ⌝ }
+{
+    fields::write_u64(s, 0, cost);
+    fields::write_u64(s, 8, gap);
+    fields::write_u64(s, 16, surplus);
+    write_outputs(&mut s[24..], outputs, n);
+}
+
 // Writes the reply for `n` units, and gives its length.
 pub fn write_reply(s: &mut [u8], n: usize, r: Reply) -> usize
     requires { ⌜ (n ≤ 32) × (92 ≤ length (now s)) ⌝ }
@@ -34,9 +46,6 @@ pub fn write_reply(s: &mut [u8], n: usize, r: Reply) -> usize
     } = r;
     fields::write_u16(s, 0, n as u16);
     fields::write_u16(s, 2, evaluations);
-    fields::write_u64(s, 4, cost);
-    fields::write_u64(s, 12, gap);
-    fields::write_u64(s, 20, surplus);
-    write_outputs(&mut s[28..], outputs, n);
+    write_amounts(&mut s[4..], n, cost, gap, surplus, outputs);
     28 + 2 * n
 }

@@ -8,6 +8,8 @@ use lib.ListN.{length, set}
 use borrow.Author.Tests.{lt-ltb, le-ltb}
 use Rattle.rules.specs.Lists.{over}
 use Rattle.rules.specs.Refusal.{numberOf}
+use Rattle.branching.specs.Refining.{refined, panelRefined}
+use Rattle.branching.proofs.Claims.{refined-length}
 use Rattle.rules.specs.Calls.{DispatchResult, PackResult, dispatched, priceVerdict, priceEnds, priced, packed, unpackVerdict, unpackEnds, unpacked, numberOfDispatched, numberOfPacked, numberOfPriced, answersOfPriced, numberOfUnpacked, answersOfUnpacked, panelDispatched, panelPacked, panelPriced, panelUnpacked}
 use Rattle.rules.specs.declared.Refusal.the-variants.{BufferTooShort, MultiplierOutOfRange}
 use Rattle.rules.specs.declared.Dispatched.{Dispatched}
@@ -24,14 +26,21 @@ two-written [] a b h = absurd (omega arith)
 two-written (x ∷ []) a b h = absurd (omega arith)
 two-written (x ∷ y ∷ xs) a b h = refl
 
--- ---- dispatch and packing
+-- ---- dispatch, refine and packing
 
-pub dispatch-told : (file reply : List ℕ) {a b : Dispatched} {s : List ℕ} {n : ℕ} → dispatched file reply ≡ record { answer = a; reply = s } → a ≡ b → n ≡ numberOfDispatched b → panelDispatched file reply ≡ record { number = n; reply = s }
+pub dispatch-told : (file reply : List ℕ) {a : Dispatched} {s : List ℕ} {n : ℕ} → dispatched file reply ≡ record { answer = a; reply = s } → n ≡ numberOfDispatched a → panelDispatched file reply ≡ record { number = n; reply = s }
 unfolding panelDispatched
-dispatch-told file reply e f g = rw (e, f, g)
+dispatch-told file reply e f = rw (e, f)
 
 pub replied-small : (file reply : List ℕ) {a : Dispatched} {s : List ℕ} {n : ℕ} → dispatched file reply ≡ record { answer = a; reply = s } → a ≡ Dispatched.Replied n → n ≤ 92
 replied-small file reply {n = n} e f = replied-length file reply n (ap (λ (r : DispatchResult). r .answer) e ∙ f) .1
+
+pub refine-told : (file : List ℕ) (budget : ℕ) (reply : List ℕ) {a : Dispatched} {s : List ℕ} {n : ℕ} → refined file budget reply ≡ record { answer = a; reply = s } → n ≡ numberOfDispatched a → panelRefined file budget reply ≡ record { number = n; reply = s }
+unfolding panelRefined
+refine-told file budget reply e f = rw (e, f)
+
+pub refined-small : (file : List ℕ) (budget : ℕ) (reply : List ℕ) {a : Dispatched} {s : List ℕ} {n : ℕ} → refined file budget reply ≡ record { answer = a; reply = s } → a ≡ Dispatched.Replied n → n ≤ 94
+refined-small file budget reply {n = n} e f = refined-length file budget reply n (ap (λ (r : DispatchResult). r .answer) e ∙ f) .1
 
 pub pack-told : (d : ℕ) (rows file : List ℕ) {a b : Packed} {s : List ℕ} {n : ℕ} → packed d rows file ≡ record { answer = a; file = s } → a ≡ b → n ≡ numberOfPacked b → panelPacked d rows file ≡ record { number = n; file = s }
 unfolding panelPacked

@@ -1,13 +1,14 @@
 // The panel's calls, as C sees them: a slice is a pointer and then a length, an answer is a number. Each does what the call on
-// slices does and tells its answer in numbers (rules 14.1 to 14.4, 18.8, 19.7, 20.8, 21.9, 23.4). `include/shahfureel.h` declares them.
+// slices does and tells its answer in numbers (rules 14.1 to 14.4, 18.8, 19.7, 20.8, 21.9, 23.4, 24.11). `include/shahfureel.h` declares them.
 ghost use mathlib.Core.Path.{_≡_};
 ghost use mathlib.Core.Bool.{cond};
 ghost use mathlib.Core.List.{[], _∷_};
-ghost use Prim.Native.Nat.{_≤_};
+ghost use Prim.Native.Nat.{ℕ, _≤_};
 ghost use lib.IntN.{pos};
 ghost use lib.ListN.{length};
 ghost use Rattle.answering.specs.Answers.{panelStarted, panelAdvanced, panelAsked};
-ghost use Rattle.rules.specs.Calls.{panelDispatched, panelPriced, panelPacked, panelUnpacked};
+ghost use Rattle.branching.specs.Refining.{panelRefined};
+ghost use Rattle.rules.specs.Calls.{numberOfDispatched, panelDispatched, panelPriced, panelPacked, panelUnpacked};
 ghost use Rattle.rules.specs.Lists.{over};
 ghost use Rattle.modbus.specs.View.{panelViewed};
 ghost use Rattle.judging.specs.Judging.{panelJudged};
@@ -27,15 +28,31 @@ use rules::Refusal;
 use rules::Unpacked;
 use sensitivity::Floored;
 
+// A reply's length, or the number of the refusal.
+fn number_of(answer: Dispatched) -> u32
+    requires { ⌜ ((n : ℕ) → answer ≡ Dispatched.Replied n → n ≤ 94) ⌝ }
+    ensures { λ n. ⌜ n ≡ numberOfDispatched answer ⌝ }
+{
+    match answer {
+        Dispatched::Replied(length) => length as u32,
+        Dispatched::Refused(r) => refusal_number::number(r),
+    }
+}
+
 #[no_mangle]
 pub extern "C" fn shahfureel_dispatch(file: &[u8], reply: &mut [u8]) -> u32
     ensures { λ n. ⌜ panelDispatched (now (file .entry)) (now (reply .entry)) ≡ record { number = n; reply = now (reply .exit) } ⌝ }
 {
     let answer = dispatching::dispatch(file, reply);
-    match answer {
-        Dispatched::Replied(length) => length as u32,
-        Dispatched::Refused(r) => refusal_number::number(r),
-    }
+    number_of(answer)
+}
+
+#[no_mangle]
+pub extern "C" fn shahfureel_refine(file: &[u8], budget: u32, reply: &mut [u8]) -> u32
+    ensures { λ n. ⌜ panelRefined (now (file .entry)) budget (now (reply .entry)) ≡ record { number = n; reply = now (reply .exit) } ⌝ }
+{
+    let answer = refining::refine(file, budget, reply);
+    number_of(answer)
 }
 
 fn flag(b: bool) -> i64

@@ -31,5 +31,6 @@ pub fn number(r: Refusal) -> u32
         Refusal::DayDemandsInvalid => 22,
         Refusal::DayBuffersTooShort => 23,
         Refusal::CaseChanged => 24,
+        Refusal::BudgetOutOfRange => 25,
     }
 }

@@ -34,6 +34,7 @@ use Rattle.rules.specs.declared.Refusal.the-variants.{
   DayDemandsInvalid,
   DayBuffersTooShort,
   CaseChanged,
+  BudgetOutOfRange,
 }
 use Rattle.rules.specs.declared.Dispatched.{Dispatched}
 use Rattle.rules.specs.declared.Packed.{Packed}
@@ -68,6 +69,7 @@ number-below-30 FloorsTooShort = omega arith
 number-below-30 DayDemandsInvalid = omega arith
 number-below-30 DayBuffersTooShort = omega arith
 number-below-30 CaseChanged = omega arith
+number-below-30 BudgetOutOfRange = omega arith
 
 -- ---- lengths
 

@@ -49,6 +49,8 @@ pub enum Refusal {
     // Of a day: a trace under 18 bytes a demand, or under 32 histories.
     DayBuffersTooShort,
     CaseChanged,
+    // A budget of nodes outside 1 to 100,000.
+    BudgetOutOfRange,
 }
 
 // What checking finds.

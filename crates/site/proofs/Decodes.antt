@@ -84,4 +84,5 @@ module _ {file : List ℕ} {n : ℕ} {coefficients ends ranges : List ℕ} {perm
             accepted = file-accepted;
             demanded = refl;
             holds = problem-held (offering-file file (b .units)) (rw e at written) (omega (arith, b .units, head .count-greatest)) (head .demand-greatest);
+            regions = λ i h. written .held e i h .regions;
           }

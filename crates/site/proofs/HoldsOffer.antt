@@ -1,5 +1,5 @@
 -- What writing a unit does to what the arrays hold: another unit stays, since it stands in other places; and the unit itself is held, if it has a permitted output.
-use mathlib.Core.Path.{_≡_, sym, _∙_}
+use mathlib.Core.Path.{_≡_, sym, ap₂, _∙_}
 use mathlib.Core.Bool.{true, false, true≢false}
 use mathlib.Core.List.{List}
 use mathlib.Core.Logic.{_⊎_, inl, inr, _↔_}
@@ -8,15 +8,17 @@ use native.Mathlib.Decide.{decLt}
 use native.Mathlib.Omega.{arith}
 use lib.ListN.{getD}
 use Rattle.rules.specs.Unit.{Unit}
+use Rattle.rules.specs.Regions.{Region}
 use Rattle.rules.specs.Problem.{Offer, offer}
 use Rattle.rules.specs.Offers.{Among}
+use Rattle.rules.proofs.Lists.{each-same}
 use Rattle.rules.proofs.Economics.Chosen.{none-among}
 use Rattle.rules.proofs.Economics.Outputs.{offered-permitted, permitted-offered}
 use Rattle.rules.proofs.Economics.Solvable.{offer-proper}
 use Rattle.regions.specs.Regions.{low, high, Ascending, Inside}
 use Rattle.regions.specs.Contracts.{KeptOutside, RegionsWritten}
 use Rattle.regions.proofs.KeptOutside.{kept-all}
-use Rattle.site.specs.Site.{first, last, Within, Regions, HoldsOffer}
+use Rattle.site.specs.Site.{first, last, Within, Regions, HoldsOffer, regionsAt, HoldsUnit}
 use Rattle.site.specs.Contracts.{CoefficientsWritten, RangeWritten, UnitWritten}
 
 -- ---- the same in other arrays
@@ -54,7 +56,7 @@ module _ {ends ends′ : List ℕ} {start next : ℕ} (b : Same (2 * start) (2 *
 
 -- a unit depends on its own places only
 module _ {coefficients ends ranges coefficients′ ends′ ranges′ : List ℕ} (i : ℕ) (a : Same (5 * i) (5 * i + 5) coefficients coefficients′) (b : Same (2 * (6 * i)) (2 * (6 * i) + 12) ends ends′) (c : Same (2 * i) (2 * i + 2) ranges ranges′) where
-  pub holds-same : (o : Offer) → HoldsOffer coefficients ends ranges i o → HoldsOffer coefficients′ ends′ ranges′ i o
+  holds-same : (o : Offer) → HoldsOffer coefficients ends ranges i o → HoldsOffer coefficients′ ends′ ranges′ i o
   holds-same o h =
       let first-same : first ranges′ i ≡ first ranges i = c .equal (2 * i) (omega arith) (omega arith) in
       let last-same : last ranges′ i ≡ last ranges i = c .equal (2 * i + 1) (omega arith) (omega arith) in
@@ -79,15 +81,25 @@ module _ {coefficients ends ranges coefficients′ ends′ ranges′ : List ℕ}
         );
       }
 
+  regions-same : (o : Offer) → HoldsOffer coefficients ends ranges i o → regionsAt ends′ ranges′ i ≡ regionsAt ends ranges i
+  regions-same o h =
+      let first-same : first ranges′ i ≡ first ranges i = c .equal (2 * i) (omega arith) (omega arith) in
+      let last-same : last ranges′ i ≡ last ranges i = c .equal (2 * i + 1) (omega arith) (omega arith) in
+      let from = first ranges i in
+      rw (first-same, last-same) (each-same (last ranges i + 1 - from) _ _ (λ j l. ap₂ (λ (x y : ℕ). record { low = x; high = y }) (b .equal (2 * (from + j)) (omega (arith, h .from)) (omega (arith, h .to))) (b .equal (2 * (from + j) + 1) (omega (arith, h .from)) (omega (arith, h .to)))))
+
+  pub unit-same : (u : Unit) → HoldsUnit coefficients ends ranges i u → HoldsUnit coefficients′ ends′ ranges′ i u
+  unit-same u h = record { holds = holds-same (offer u) (h .holds); regions = regions-same (offer u) (h .holds) ∙ h .regions }
+
 -- ---- a unit is written
 
 module _ {u : Unit} {i next : ℕ} {coefficients ends coefficients′ ends′ : List ℕ} (cs : CoefficientsWritten u i coefficients coefficients′) (rs : RegionsWritten u (6 * i) ends ends′ next) where
-  others : {ranges ranges′ : List ℕ} → KeptOutside (2 * i) (2 * i + 2) ranges ranges′ → (j : ℕ) → (j ≡ i → ⊥) → (o : Offer) → HoldsOffer coefficients ends ranges j o → HoldsOffer coefficients′ ends′ ranges′ j o
+  others : {ranges ranges′ : List ℕ} → KeptOutside (2 * i) (2 * i + 2) ranges ranges′ → (j : ℕ) → (j ≡ i → ⊥) → (v : Unit) → HoldsUnit coefficients ends ranges j v → HoldsUnit coefficients′ ends′ ranges′ j v
   others {ranges} {ranges′} kept j n = by (decLt j i)
     where
-      by : Dec (j < i) → (o : Offer) → HoldsOffer coefficients ends ranges j o → HoldsOffer coefficients′ ends′ ranges′ j o
-      by (yes l) = holds-same j (same (cs .kept) (inl (omega arith))) (same (rs .kept) (inl (omega arith))) (same kept (inl (omega arith)))
-      by (no l) = holds-same j (same (cs .kept) (inr (omega arith))) (same (rs .kept) (inr (omega arith))) (same kept (inr (omega arith)))
+      by : Dec (j < i) → (v : Unit) → HoldsUnit coefficients ends ranges j v → HoldsUnit coefficients′ ends′ ranges′ j v
+      by (yes l) = unit-same j (same (cs .kept) (inl (omega arith))) (same (rs .kept) (inl (omega arith))) (same kept (inl (omega arith)))
+      by (no l) = unit-same j (same (cs .kept) (inr (omega arith))) (same (rs .kept) (inr (omega arith))) (same kept (inr (omega arith)))
 
   -- no region: no output
   pub unit-none : next ≡ 6 * i → (ranges : List ℕ) → UnitWritten u i coefficients ends ranges coefficients′ ends′ ranges false
@@ -117,12 +129,16 @@ module _ {u : Unit} {i next : ℕ} {coefficients ends coefficients′ ends′ : 
         record {
           holds = λ _.
               record {
-                proper = offer-proper u (cs .holds .sound);
-                unit = cs .holds;
-                from = omega (arith, r .first);
-                to = omega (arith, r .last, rs .to, some);
-                regions = rw (r .first, r .last) regions;
-                outputs = λ p. (λ m. rw (r .first, r .last) (within p .0 m), λ w. within p .1 (rw (r .first, r .last) at w));
+                holds =
+                    record {
+                      proper = offer-proper u (cs .holds .sound);
+                      unit = cs .holds;
+                      from = omega (arith, r .first);
+                      to = omega (arith, r .last, rs .to, some);
+                      regions = rw (r .first, r .last) regions;
+                      outputs = λ p. (λ m. rw (r .first, r .last) (within p .0 m), λ w. within p .1 (rw (r .first, r .last) at w));
+                    };
+                regions = rw (r .first, r .last, counted) (rs .held);
               };
           none = λ t. absurd (true≢false t);
           others = others (r .kept);

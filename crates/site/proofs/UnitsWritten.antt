@@ -12,7 +12,7 @@ use Rattle.rules.specs.Unit.{Unit}
 use Rattle.rules.specs.Problem.{Offer, Problem, offer, problemOf}
 use Rattle.rules.specs.Bisection.{solvable}
 use Rattle.rules.proofs.Lists.{every-at, all-every, length-each, getD-each}
-use Rattle.site.specs.Site.{HoldsOffer, HoldsProblem, noOffer}
+use Rattle.site.specs.Site.{HoldsUnit, HoldsProblem, noOffer}
 use Rattle.site.specs.Contracts.{UnitWritten, Offering, UnitsDecoded}
 
 -- ---- the loop over the units
@@ -25,7 +25,7 @@ pub record Unserved (unit : ℕ → Unit) (n : ℕ) : Type 0 where
 
 -- units 0 .. i − 1 are held, or `permitted` is false and one of them has no permitted output
 pub record UnitsWritten (unit : ℕ → Unit) (coefficients ends ranges : List ℕ) (permitted : Bool) (i : ℕ) : Type 0 where
-  pub held : permitted ≡ true → (j : ℕ) → j < i → HoldsOffer coefficients ends ranges j (offer (unit j))
+  pub held : permitted ≡ true → (j : ℕ) → j < i → HoldsUnit coefficients ends ranges j (unit j)
   pub unserved : permitted ≡ false → Unserved unit i
 
 pub units-start : {unit : ℕ → Unit} {coefficients ends ranges : List ℕ} → UnitsWritten unit coefficients ends ranges true 0
@@ -41,9 +41,9 @@ module _ {unit : ℕ → Unit} {coefficients ends ranges : List ℕ} {permitted 
           unserved = λ e. let k = d .unserved (sym q ∙ e) in record { which = k .which; below = omega (arith, k .below); none = k .none };
         }
       where
-        at : permitted ≡ true → (j : ℕ) → j < i + 1 → Dec (j ≡ i) → HoldsOffer coefficients′ ends′ ranges′ j (offer (unit j))
+        at : permitted ≡ true → (j : ℕ) → j < i + 1 → Dec (j ≡ i) → HoldsUnit coefficients′ ends′ ranges′ j (unit j)
         at e j l (yes k) = rw (k, ← x) (w .holds s)
-        at e j l (no k) = w .others j k (offer (unit j)) (d .held e j (omega arith))
+        at e j l (no k) = w .others j k (unit j) (d .held e j (omega arith))
 
     pub units-unserved : some ≡ false → permitted′ ≡ false → UnitsWritten unit coefficients′ ends′ ranges′ permitted′ (i + 1)
     units-unserved s q =
@@ -54,7 +54,7 @@ module _ {unit : ℕ → Unit} {coefficients ends ranges : List ℕ} {permitted 
 
 -- ---- after the last
 
-mapped : {A B : Type 0} (f : A → B) (xs : List A) (n : ℕ) (d : A) (e : B) → n < length xs → getD (map f xs) n e ≡ f (getD xs n d)
+pub mapped : {A B : Type 0} (f : A → B) (xs : List A) (n : ℕ) (d : A) (e : B) → n < length xs → getD (map f xs) n e ≡ f (getD xs n d)
 mapped f [] n d e h = absurd (omega arith)
 mapped f (x ∷ xs) zero d e h = refl
 mapped f (x ∷ xs) (suc n) d e h = mapped f xs n d e (omega arith)
@@ -73,7 +73,7 @@ offering unit n d =
 module _ {unit : ℕ → Unit} {n : ℕ} {q : Problem} (o : Offering unit n q) where
   pub problem-held : {coefficients ends ranges : List ℕ} → UnitsWritten unit coefficients ends ranges true n → n ≤ 32 → q .demand ≤ 320000 → HoldsProblem coefficients ends ranges n q
   problem-held d few demand =
-      record { count = o .count; few = few; demand = demand; offers = λ j h. rw (o .at j h) (d .held refl j h) }
+      record { count = o .count; few = few; demand = demand; offers = λ j h. rw (o .at j h) (d .held refl j h .holds) }
 
   abbrev some : Offer → Bool
   some o = ltb 0 (length (o .outputs))

@@ -7,13 +7,14 @@ use lib.ListN.{length, getD}
 use Rattle.rules.specs.Unit.{Unit, withPrevious}
 use Rattle.rules.specs.Layout.{edition, count, unitAt}
 use Rattle.rules.specs.Refusal.{headVerdict, contentsVerdict, fileVerdict}
+use Rattle.rules.specs.Regions.{regions}
 use Rattle.rules.specs.Problem.{Offer, Problem, offer, target, problemIn}
 use Rattle.rules.specs.Bisection.{solvable}
 use Rattle.rules.specs.Calls.{caseVerdict}
 use Rattle.rules.specs.declared.Verdict.{Verdict}
 use Rattle.rules.specs.Sound.{Sound}
 use Rattle.regions.specs.Contracts.{KeptOutside}
-use Rattle.site.specs.Site.{first, last, Coefficients, HoldsOffer, HoldsProblem, noOffer}
+use Rattle.site.specs.Site.{first, last, Coefficients, HoldsUnit, regionsAt, HoldsProblem, noOffer}
 use Rattle.site.specs.declared.Decoded.{Decoded}
 
 -- ---- one unit
@@ -34,9 +35,9 @@ pub record RangeWritten (i first′ last′ : ℕ) (before after : List ℕ) : T
 
 -- The arrays with u as unit i, if u has a permitted output, and the other units as before.
 pub record UnitWritten (u : Unit) (i : ℕ) (coefficients ends ranges coefficients′ ends′ ranges′ : List ℕ) (some : Bool) : Type 0 where
-  pub holds : some ≡ true → HoldsOffer coefficients′ ends′ ranges′ i (offer u)
+  pub holds : some ≡ true → HoldsUnit coefficients′ ends′ ranges′ i u
   pub none : some ≡ false → offer u .outputs ≡ []
-  pub others : (j : ℕ) → (j ≡ i → ⊥) → (o : Offer) → HoldsOffer coefficients ends ranges j o → HoldsOffer coefficients′ ends′ ranges′ j o
+  pub others : (j : ℕ) → (j ≡ i → ⊥) → (v : Unit) → HoldsUnit coefficients ends ranges j v → HoldsUnit coefficients′ ends′ ranges′ j v
 
 -- ---- the bodies
 
@@ -69,12 +70,13 @@ pub record PreviousGiven (file : List ℕ) (n : ℕ) (previous : List ℕ) : Typ
   pub units : n ≡ count file
   pub small : (i : ℕ) → i < n → getD previous i 0 ≤ 10000
 
--- ---- what decoding a file gives: its problem in the arrays, where every unit has a permitted output; or the refusal of the case
+-- ---- what decoding a file gives: its problem in the arrays, each unit with its regions one by one, where every unit has a permitted output; or the refusal of the case
 
 pub record Site (file coefficients ends ranges : List ℕ) (n t : ℕ) : Type 0 where
   pub accepted : fileVerdict file ≡ Verdict.Accepted
   pub demanded : t ≡ target (problemIn file)
   pub holds : HoldsProblem coefficients ends ranges n (problemIn file)
+  pub regions : (i : ℕ) → i < n → regionsAt ends ranges i ≡ regions (unitAt file i)
 
 abbrev pub Decodes : List ℕ → List ℕ → List ℕ → List ℕ → Decoded → Type 0
 Decodes file coefficients ends ranges (Decoded.Site n t) = Site file coefficients ends ranges n t

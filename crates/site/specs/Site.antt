@@ -1,15 +1,16 @@
 -- A decoded site is three arrays of plain numbers. Here stands which problem they hold: for each unit its coefficients and, as regions that ascend, the outputs that it offers.
-use Prim.Native.Nat.{ℕ, _+_, _*_, _≤_, _<_}
+use Prim.Native.Nat.{ℕ, _+_, _*_, _-_, _≤_, _<_}
 use mathlib.Core.Path.{_≡_}
 use mathlib.Core.List.{List, []}
 use mathlib.Core.Logic.{_↔_}
 use lib.IntN.{pos}
 use lib.ListN.{length, getD}
 use Rattle.rules.specs.Unit.{Unit, linearFactor}
-use Rattle.rules.specs.Problem.{Offer, Problem}
+use Rattle.rules.specs.Regions.{Region, regions}
+use Rattle.rules.specs.Problem.{Offer, Problem, offer}
 use Rattle.rules.specs.Sound.{Sound}
 use Rattle.rules.specs.Offers.{Among, Proper}
-use Rattle.regions.specs.Regions.{Ascending, Inside}
+use Rattle.regions.specs.Regions.{Ascending, Inside, heldFrom}
 
 -- ---- the arrays by place
 
@@ -66,6 +67,15 @@ pub record HoldsOffer (coefficients ends ranges : List ℕ) (i : ℕ) (o : Offer
   pub to : last ranges i < 6 * i + 6
   pub regions : Regions ends (first ranges i) (last ranges i)
   pub outputs : (p : ℕ) → Among p (o .outputs) ↔ Within ends (first ranges i) (last ranges i) p
+
+-- the regions of unit i, one by one
+abbrev pub regionsAt : List ℕ → List ℕ → ℕ → List Region
+regionsAt ends ranges i = heldFrom ends (first ranges i) (last ranges i + 1 - first ranges i)
+
+-- unit i of the arrays is u: it offers all its permitted outputs, and its regions are those of rule 5.6
+pub record HoldsUnit (coefficients ends ranges : List ℕ) (i : ℕ) (u : Unit) : Type 0 where
+  pub holds : HoldsOffer coefficients ends ranges i (offer u)
+  pub regions : regionsAt ends ranges i ≡ regions u
 
 -- what stands past the end of a list of offers
 abbrev pub noOffer : Offer

@@ -1,2 +1,3 @@
 pub mod Stating
 pub mod Solved
+pub mod StepOne

@@ -1,9 +1,10 @@
 // The solution of a problem whose arrays are decoded, as a reply states it, before it is bytes: the search (crate `bisection`), and cost,
-// gap and surplus of what it found.
-ghost use Rattle.bisection.specs.Contracts.{FirstHeld};
-ghost use Rattle.solving.specs.Contracts.{Stateable, States, Solves};
+// gap and surplus of what it found; with step 1 before it, of any problem that the arrays hold.
+ghost use Rattle.bisection.specs.Contracts.{FirstHeld, Searchable};
+ghost use Rattle.solving.specs.Contracts.{Stateable, States, Solves, HoldsSolution};
 use bisection::Allocation;
 use bisection::Found;
+use evaluation::FirstBest;
 
 // What the reply states, besides the number of units.
 pub struct Reply {
@@ -12,6 +13,12 @@ pub struct Reply {
     pub gap: u64,
     pub surplus: u64,
     pub outputs: [u16; 32],
+}
+
+// What a problem has: whether an allocation covers its demand, and then the reply.
+pub struct Solution {
+    pub solvable: bool,
+    pub reply: Reply,
 }
 
 // What the reply states of what the search found, for the net `target` that covers the demand.
@@ -51,4 +58,38 @@ pub fn solve(
         target,
         bisection::search(coefficients, ends, ranges, n, target, first, &mut trace),
     )
+}
+
+// The solution of the problem that the arrays hold: step 1, then the search if it accepts.
+pub fn solve_held(
+    coefficients: &[u64; 160],
+    ends: &[u16; 384],
+    ranges: &[u8; 64],
+    n: usize,
+    target: u64,
+) -> Solution
+    requires { ⌜ Searchable (now coefficients) (now ends) (now ranges) n target ⌝ }
+    ensures { λ r. ⌜ HoldsSolution (now (coefficients .entry)) (now (ends .entry)) (now (ranges .entry)) n target r ⌝ }
+{
+    let mut outputs = [0u16; 32];
+    let first = evaluation::step1(coefficients, ends, ranges, n, target, &mut outputs);
+    match first {
+        FirstBest::Refused(_) => Solution {
+            solvable: false,
+            reply: Reply {
+                evaluations: 0,
+                cost: 0,
+                gap: 0,
+                surplus: 0,
+                outputs,
+            },
+        },
+        FirstBest::Found { cost, net, .. } => {
+            let greatest = Allocation { outputs, cost, net };
+            Solution {
+                solvable: true,
+                reply: solve(coefficients, ends, ranges, n, target, greatest),
+            }
+        }
+    }
 }

@@ -1,48 +1,21 @@
 -- `panel::shahfureel_dispatch` meets its contract: the call on slices, told to C (`Answers`).
 use native.Mathlib.Omega.{arith}
-use mathlib.Core.Path.{refl}
-use Rattle.panel.proofs.Answers.{dispatch-told, replied-small}
 use borrow.Author.Needs.{needs}
+use Rattle.panel.proofs.Answers.{dispatch-told, replied-small}
 use Rattle.panel.proofs.shahfureel_dispatch.Statement.{statement}
 use Rattle.panel.proofs.shahfureel_dispatch.Tie as tie
 
 dispatch-requires : tie.Need-dispatch-requires
 dispatch-requires c κs = search needs
 
-enum-known-answer : tie.Need-enum-known-answer
-enum-known-answer c = search needs
-
-cast-result : tie.Need-cast-result
-cast-result c = omega (arith, replied-small _ _ (c .before .before .before .before .before .dispatch .ensures .0) (c .before .answer .given .1))
-
-enum-known-answer-2 : tie.Need-enum-known-answer-2
-enum-known-answer-2 c = search needs
-
-number-requires : tie.Need-number-requires
-number-requires c κs = search needs
+number-of-requires : tie.Need-number-of-requires
+number-of-requires c κs n e = omega (arith, replied-small _ _ (c .before .before .dispatch .ensures .0) e)
 
 same-length : tie.Need-same-length
 same-length c = search needs
 
 returns : tie.Need-returns
-returns c = dispatch-told _ _ (c .before .before .before .before .before .dispatch .ensures .0) (c .before .answer .given .1) refl
-
-same-length-2 : tie.Need-same-length-2
-same-length-2 c = search needs
-
-returns-2 : tie.Need-returns-2
-returns-2 c = dispatch-told _ _ (c .before .before .before .before .before .before .dispatch .ensures .0) (c .before .before .answer2 .given .1) (c .number .ensures)
+returns c = dispatch-told _ _ (c .before .before .before .dispatch .ensures .0) (c .number-of .ensures)
 
 pub shahfureel-dispatch-spec : {M : Type 1} → statement M
-shahfureel-dispatch-spec =
-    tie.close
-    (tie.spec
-    dispatch-requires
-    enum-known-answer
-    cast-result
-    enum-known-answer-2
-    number-requires
-    same-length
-    returns
-    same-length-2
-    returns-2)
+shahfureel-dispatch-spec = tie.close (tie.spec dispatch-requires number-of-requires same-length returns)

@@ -16,7 +16,7 @@ use Rattle.rules.specs.Offers.{Among, Ascends, AscendsAbove}
 -- ---- the elements of a list of which a test holds
 
 module _ (test : ℕ → Bool) where
-  kept : (p : ℕ) (xs : List ℕ) → test p ≡ true → Among p xs → Among p (filter test xs)
+  pub kept : (p : ℕ) (xs : List ℕ) → test p ≡ true → Among p xs → Among p (filter test xs)
   kept p [] t i = absurd i
   kept p (x ∷ xs) t i = by (test x) refl i (kept p xs t)
     where
@@ -26,7 +26,7 @@ module _ (test : ℕ → Bool) where
       by false e (inl q) r = absurd (true≢false (sym t ∙ ap test q ∙ e))
       by false e (inr j) r = r j
 
-  holds : (p : ℕ) (xs : List ℕ) → Among p (filter test xs) → (test p ≡ true) × Among p xs
+  pub holds : (p : ℕ) (xs : List ℕ) → Among p (filter test xs) → (test p ≡ true) × Among p xs
   holds p [] i = absurd i
   holds p (x ∷ xs) i = by (test x) refl i (holds p xs)
     where
@@ -47,7 +47,7 @@ module _ (test : ℕ → Bool) where
       by true r = (a .0, r)
       by false r = lower b x (filter test xs) (a .0) r
 
-  ascends : (xs : List ℕ) → Ascends xs → Ascends (filter test xs)
+  pub ascends : (xs : List ℕ) → Ascends xs → Ascends (filter test xs)
   ascends [] a = record {}
   ascends (x ∷ xs) a = by (test x) (above x xs a)
     where
@@ -61,7 +61,7 @@ module _ (test : ℕ → Bool) where
 
 -- ---- the numbers from 0 on, as f 0, f 1, ..
 
-eachAmong : (n : ℕ) (f : ℕ → ℕ) (k : ℕ) → k < n → Among (f k) (each n f)
+pub eachAmong : (n : ℕ) (f : ℕ → ℕ) (k : ℕ) → k < n → Among (f k) (each n f)
 eachAmong zero f k h = absurd (omega arith)
 eachAmong (suc n) f zero h = inl refl
 eachAmong (suc n) f (suc k) h = inr (eachAmong n (λ i. f (suc i)) k (omega arith))
@@ -75,7 +75,7 @@ eachAbove : (n : ℕ) (f : ℕ → ℕ) (b : ℕ) → ((k : ℕ) → f k < f (su
 eachAbove zero f b up h = record {}
 eachAbove (suc n) f b up h = (h, eachAbove n (λ i. f (suc i)) (f 0) (λ k. up (suc k)) (up 0))
 
-eachAscends : (n : ℕ) (f : ℕ → ℕ) → ((k : ℕ) → f k < f (suc k)) → Ascends (each n f)
+pub eachAscends : (n : ℕ) (f : ℕ → ℕ) → ((k : ℕ) → f k < f (suc k)) → Ascends (each n f)
 eachAscends zero f up = record {}
 eachAscends (suc n) f up = eachAbove n (λ i. f (suc i)) (f 0) (λ k. up (suc k)) (up 0)
 

@@ -1,0 +1,9 @@
+pub mod NodeByNode
+pub mod Visits
+pub mod Budgets
+pub mod FirstNode
+pub mod Nodes
+pub mod Enough
+pub mod ReplySpelled
+pub mod Refined
+pub mod Claims

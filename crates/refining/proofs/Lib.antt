@@ -1,0 +1,6 @@
+pub mod Ranged
+pub mod NodesHeld
+pub mod ProgressHeld
+pub mod NodeVisited
+pub mod RefinedWritten
+pub mod Endings
