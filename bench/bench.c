@@ -4,6 +4,7 @@
 #include "cases.h"
 #include "days.h"
 #include "floors.h"
+#include "gencosts.h"
 #include "judges.h"
 #include "measure.h"
 #include "plain.h"
@@ -280,6 +281,7 @@ int main(int argc, char **argv)
     time_floors(repetitions, &groups[OF_EDITION_1 - 1]);
     time_days(repetitions, &groups[OF_EDITION_1 - 1]);
     time_refines(repetitions, &groups[SIZES], SIZES);
+    time_gencosts(repetitions);
     printf("\n");
     for (int i = 0; i < SIZES; i++)
         if (sizes[i] == 1 || sizes[i] == 8 || sizes[i] == 32)

@@ -1,8 +1,9 @@
-/* The plain C programs of the specification's dispatch, view, judging, floors, day and refining, as the benchmark calls them. */
+/* The plain C programs of the specification's dispatch, view, judging, floors, day, refining and cost rows, as the benchmark
+ * calls them. */
 #ifndef PLAIN_H
 #define PLAIN_H
 
-#include "shahfureel.h" /* for the record of a history */
+#include "shahfureel.h" /* for the record of a history, and the places of a row */
 
 #include <stddef.h>
 #include <stdint.h>
@@ -38,5 +39,8 @@ uint32_t plain_day(const uint8_t *file, size_t file_length, const uint32_t *dema
 
 /* As shahfureel_refine in include/shahfureel.h. */
 uint32_t plain_refine(const uint8_t *file, size_t file_length, uint32_t budget, uint8_t *reply, size_t reply_room);
+
+/* As shahfureel_gencost in include/shahfureel.h. */
+uint32_t plain_gencost(const char *row, size_t row_length, int64_t *answers, size_t answers_room);
 
 #endif

@@ -7,7 +7,8 @@
  * file and the demands of a day's slots, dispatches one after the other, each from the outputs of the one before, and says what
  * each slot costs and how often each unit is started. A run is a dispatch made one evaluation at a time, for screens that show
  * the best so far. Refining takes a case file and a budget of dispatches, and looks for cheaper outputs and a smaller gap. The view
- * serves a reply to station screens that poll it by Modbus.
+ * serves a reply to station screens that poll it by Modbus. A cost row is a set's costs as text, a row of a MATPOWER gencost
+ * matrix: reading it gives the cost numbers of a row, exactly or not at all.
  *
  * A whole program: one unit that can give 0.2 to 1.0 MW, but nothing strictly between 0.4 and 0.7 MW, is asked for 0.5 MW.
  * It prints "unit 1 gives 0.7 MW" and "cost 119000, nobody does it for less than 77000".
@@ -60,7 +61,7 @@
  *   - each pointer is valid for its length or room, and lists of numbers are aligned for their type;
  *   - LENGTHS AND ROOM OF LISTS COUNT NUMBERS, NOT BYTES: rows_length, rows_room, outputs_length, demands_length, floors_room,
  *     answers_room; histories_room counts records. For an array that is `sizeof rows / sizeof rows[0]`; a bare `sizeof rows`
- *     lets the call pass the array's end. Files, replies, requests, the view's answer and the day's trace count bytes;
+ *     lets the call pass the array's end. Files, replies, requests, the view's answer, the day's trace and cost rows count bytes;
  *   - a length or room is at most PTRDIFF_MAX bytes, and a pointer is not null, also where the length is 0;
  *   - an output buffer overlaps no other buffer of the same call.
  * A `..._length` is the exact length of an input: a case file's length is what packing returned or what was read, not the size of
@@ -100,6 +101,8 @@ extern "C" {
 #define SHAHFUREEL_LENGTH_MIN 30u            /* shahfureel_dispatch, _refine and _pack: an answer below this is a refusal */
 #define SHAHFUREEL_VIEW_REQUEST_BYTES 5u     /* a Modbus request: function, start and quantity */
 #define SHAHFUREEL_VIEW_ANSWER_BYTES 252u    /* a buffer for a Modbus answer has at least as many bytes */
+#define SHAHFUREEL_GENCOST_BYTES_MAX 256u    /* no cost row that is read has more bytes */
+#define SHAHFUREEL_GENCOST_ANSWERS 3u        /* a list of answers for shahfureel_gencost has at least as many */
 
 /* ---- the stack that each call takes, in bytes at most (measured by tests/panel/stack.c, not proved) */
 
@@ -114,6 +117,7 @@ extern "C" {
 #define SHAHFUREEL_STACK_START 3584u
 #define SHAHFUREEL_STACK_ADVANCE 4096u
 #define SHAHFUREEL_STACK_ASK 512u
+#define SHAHFUREEL_STACK_GENCOST 512u
 #define SHAHFUREEL_REFINE_STACK_BYTES 73728u /* it calls itself, up to 161 calls deep */
 
 /* ---- editions of the case file. Edition 1 is what shahfureel_pack writes and shahfureel_unpack reads. In edition 2 each unit
@@ -328,8 +332,9 @@ static inline uint64_t shahfureel_slot_gap(const uint8_t *trace, size_t slot)
  * The first that applies is given: dispatch 1 to 6, unit by unit 7, 8, 18, 9, 10, then 11; pricing 14, 1, then as dispatch from
  * 2 on; judging as dispatch, then 19; floors 1, 20, 21, then as dispatch from 2 on; the day 1, 22, 23, then as dispatch from 2 on
  * but never 11; refining 1, 25, then as dispatch from 2 on; starting a run as dispatch from 2 on, advancing it 1, then 24, asking
- * it 1; unpacking 1 to 6, unit by unit 7 to 10; packing 12, 5, row by row 7 to 10, then 13; the view 1, 15, 16, 17. (Behind 24 an
- * advance checks the file once more, as dispatch does from 2 on. Of a run that a start has begun it finds nothing.)
+ * it 1; unpacking 1 to 6, unit by unit 7 to 10; packing 12, 5, row by row 7 to 10, then 13; the view 1, 15, 16, 17; a cost row 1,
+ * 26, 27, 28. (Behind 24 an advance checks the file once more, as dispatch does from 2 on. Of a run that a start has begun it finds
+ * nothing.)
  *
  * 7 to 10 from packing: to find the row, pack the rows one by one, each as a list of its 19 numbers with demand 0. The row that
  * is refused is the one. From a call on a file: a file that packing has written is never refused with 2 to 10 or 18, if it is
@@ -346,11 +351,14 @@ static inline uint64_t shahfureel_slot_gap(const uint8_t *trace, size_t slot)
  *
  * 24: the file that an advance was handed is not, byte by byte, the one that the run was started with: the case was loaded anew or
  * changed meanwhile. The run keeps its state. Start it anew with the new file, and it begins again with that; or hand over the old
- * file, and it goes on. So a panel whose users may load a case starts anew at 24, or keeps a copy of the file while a run lasts. */
+ * file, and it goes on. So a panel whose users may load a case starts anew at 24, or keeps a copy of the file while a run lasts.
+ *
+ * 26 to 28: to find the word of a cost row, put its words into "2 0 0 3 0 0 0", each alone and in its own place, and read that, as
+ * examples/gencost.c does. At 28 no coefficient of the row is too fine; at 27 one may be above its limit too. */
 
 enum shahfureel_refusal {
     SHAHFUREEL_BUFFER_TOO_SHORT = 1,         /* lend a reply of 92 bytes, for refining 94, rows of 608 numbers, answers of 2, for
-                                                judging 4, for asking a run 38 */
+                                                judging 4, for asking a run 38, for a cost row 3 */
     SHAHFUREEL_FILE_TOO_SHORT = 2,           /* the file has less than its 8 bytes of head: was it read whole? */
     SHAHFUREEL_EDITION_UNKNOWN = 3,          /* the first field is neither 1 nor 2, or for unpacking not 1: bytes swapped? */
     SHAHFUREEL_COUNT_OUT_OF_RANGE = 4,       /* the file names no unit, or more than 32 */
@@ -378,8 +386,16 @@ enum shahfureel_refusal {
                                                 a file whose previous outputs are those of the histories; or one above 320,000 */
     SHAHFUREEL_DAY_BUFFERS_TOO_SHORT = 23,   /* lend a trace of 18 bytes for each demand and 32 histories, also for fewer units */
     SHAHFUREEL_CASE_CHANGED = 24,            /* a run advanced with a file that is not its own: start anew, or hand over its own */
-    SHAHFUREEL_BUDGET_OUT_OF_RANGE = 25      /* a budget of 0 or above 100,000: ask for at most SHAHFUREEL_BUDGET_MAX. There is no
+    SHAHFUREEL_BUDGET_OUT_OF_RANGE = 25,     /* a budget of 0 or above 100,000: ask for at most SHAHFUREEL_BUDGET_MAX. There is no
                                                 way to go on from there: a call always begins with the whole site */
+    SHAHFUREEL_GENCOST_MALFORMED = 26,       /* a cost row that is not of the form, or of more than 256 bytes: does it begin with a
+                                                blank or end with one, with ';' or with the line's end, has it a sign or an
+                                                exponent, or is it of another model or degree? */
+    SHAHFUREEL_GENCOST_NOT_WHOLE = 27,       /* a coefficient finer than a case file can hold: square, linear or constant is no
+                                                whole number of 0.0001, 0.00001 or 0.000001. Nothing is rounded: round it yourself,
+                                                if the set's costs may change by that */
+    SHAHFUREEL_GENCOST_ABOVE_LIMIT = 28      /* square, linear or constant is above 0.1, 100 or 1,000, which is what a case file
+                                                holds: give the costs of all sets in a larger unit of money */
 };
 
 /* ---- calls. docs/FORMATS.md has the case file byte by byte. */
@@ -511,6 +527,22 @@ uint32_t shahfureel_day(const uint8_t *file, size_t file_length, const uint32_t 
  *     zeros for the evaluations, and its bytes from 6 on.
  * The bytes of the buffer behind the reply are untouched. (reply_room counts bytes: at least 94, also for fewer units.) */
 uint32_t shahfureel_refine(const uint8_t *file, size_t file_length, uint32_t budget, uint8_t *reply, size_t reply_room);
+
+/* Reads a cost row, a row of a MATPOWER gencost matrix as text. Returns 0 and writes three answers, the cost numbers of a unit,
+ * each at the place that it has in the unit's row; or returns a refusal.
+ *   - The text is seven words: 2 (a polynomial), startup, shutdown, 3 (coefficients), then the square, linear and constant
+ *     coefficients of the cost an hour at an output in MW. Each two are parted by one or more spaces or tabs. Nothing stands before
+ *     the first or behind the last: no blank, no line's end, no ';'. It has at most 256 bytes.
+ *   - 2 and 3 are that one character. The others are digits, or digits, a point and digits: no sign, no exponent, and a digit on
+ *     either side of a point. Zeros before and behind change nothing. Startup and shutdown need the form and are ignored, whatever
+ *     their value.
+ *   - A case file counts power in steps of 0.1 MW and money in millionths. So answers[SHAHFUREEL_ROW_C2] is 10,000 times the square
+ *     coefficient, answers[SHAHFUREEL_ROW_C1] 100,000 times the linear and answers[SHAHFUREEL_ROW_C0] 1,000,000 times the constant
+ *     one, exactly: nothing is rounded. Copied to these places of a row they are never refused with 8.
+ *   - `2 1500 0 3 0.085 1.2 600` gives c2 850, c1 120,000 and c0 600,000,000.
+ * The text is only read, and need not end with a zero byte; row_length does not count one. Answers past the third are untouched.
+ * (row_length counts bytes. answers_room counts numbers: at least 3.) */
+uint32_t shahfureel_gencost(const char *row, size_t row_length, int64_t *answers, size_t answers_room);
 
 /* ---- a dispatch one evaluation at a time. A screen that is not to freeze starts a run, advances it until it is finished, 18 times
  * at most, and asks in between what is found so far. docs/C.md has a whole program, examples/run.c another. These three take the

@@ -13,7 +13,7 @@ ROOT = pathlib.Path(__file__).resolve().parents[2]
 GUIDES = [ROOT / "README.md", *sorted((ROOT / "docs").glob("*.md")), ROOT / "examples/README.md"]
 LINKED = [*GUIDES, *sorted((ROOT / "docs/changes").glob("*.md")), ROOT / "tests/second_solver/README.md"]
 PATH = re.compile(r"`((?:crates|docs|examples|tests|tools|include|bench|python)/[\w./-]+)`")
-COMMAND = re.compile(r"(?:target/(?:site|judge|day|floors|refine|bin/dispatch)|python3 examples/\w+\.py|od -An)\b.*")
+COMMAND = re.compile(r"(?:target/(?:site|judge|day|floors|refine|gencost|bin/dispatch)|python3 examples/\w+\.py|od -An)\b.*")
 # what a guide names although a build makes it
 MADE = ("examples/NAME",)
 

@@ -1821,6 +1821,198 @@ static void unpacking(size_t a)
         unpack_gives(u5_but(damaged[i].at, damaged[i].value), U5_BYTES, a, 608, 2, damaged[i].number, damaged[i].what);
 }
 
+/* ---- cost rows */
+
+/* rows and what they give: c2, c1 and c0, or a number; above each the wrong rule that it shows */
+static const struct {
+    const char *row;
+    uint32_t number;
+    int64_t c2, c1, c0;
+} cost_rows[] = {
+    /* a limit refused */
+    {"2 0 0 3 0.1 0 0", 0, 1000, 0, 0},
+    {"2 0 0 3 0.1 00000100 1000.0", 0, 1000, 10000000, 1000000000},
+    /* the coefficients in another order, or a factor of another */
+    {"2 1500 0 3 0.085 1.2 600", 0, 850, 120000, 600000000},
+    /* zeros before a first digit or behind a last decimal refused */
+    {"2 0 0 3 00.0500 01.20 600", 0, 500, 120000, 600000000},
+    /* a tab, or more than one blank between two words, refused */
+    {"2\t0  0 \t3\t\t0.01 0.5   7", 0, 100, 50000, 7000000},
+    /* the least of each lost; binary floating point */
+    {"2 0 0 3 0.0001 0.00001 0.000001", 0, 1, 1, 1},
+    {"2 0 0 3 0 1.15 0", 0, 0, 115000, 0},
+    /* startup and shutdown judged by their value */
+    {"2 99999999999999999999999999 0.00000000000000000000001 3 0.1 0 0", 0, 1000, 0, 0},
+    /* one, six or eight words */
+    {"2", 26, 0, 0, 0},
+    {"2 0 0 3 0 0", 26, 0, 0, 0},
+    {"2 0 0 3 0 0 0 0", 26, 0, 0, 0},
+    /* something before or behind */
+    {" 2 0 0 3 0 0 0", 26, 0, 0, 0},
+    {"2 0 0 3 0 0 0 ", 26, 0, 0, 0},
+    {"\t2 0 0 3 0 0 0", 26, 0, 0, 0},
+    {"2 0 0 3 0 0 0\t", 26, 0, 0, 0},
+    {"2 0 0 3 0 0 0\n", 26, 0, 0, 0},
+    {"2 0 0 3 0 0 0\r", 26, 0, 0, 0},
+    {"2 0 0 3 0 0 0;", 26, 0, 0, 0},
+    /* another character taken for a blank */
+    {"2 0 0\n3 0 0 0", 26, 0, 0, 0},
+    {"2 0 0\r3 0 0 0", 26, 0, 0, 0},
+    {"2 0 0\v3 0 0 0", 26, 0, 0, 0},
+    {"2 0 0\xa0" "3 0 0 0", 26, 0, 0, 0},
+    /* the first or the fourth word read as a number, or not looked at */
+    {"2.0 0 0 3 0 0 0", 26, 0, 0, 0},
+    {"02 0 0 3 0 0 0", 26, 0, 0, 0},
+    {"1 0 0 3 0 0 0", 26, 0, 0, 0},
+    {"2 0 0 3.0 0 0 0", 26, 0, 0, 0},
+    {"2 0 0 03 0 0 0", 26, 0, 0, 0},
+    {"2 0 0 2 0 0 0", 26, 0, 0, 0},
+    /* a point without a digit on either side, two points, a sign, an exponent, a comma, the characters beside the digits */
+    {"2 0 0 3 0 0 .5", 26, 0, 0, 0},
+    {"2 0 0 3 0 0 5.", 26, 0, 0, 0},
+    {"2 0 0 3 0 0 0.0.1", 26, 0, 0, 0},
+    {"2 0 0 3 0 0 -0", 26, 0, 0, 0},
+    {"2 0 0 3 0 0 +0", 26, 0, 0, 0},
+    {"2 0 0 3 0 0 1e-2", 26, 0, 0, 0},
+    {"2 0 0 3 0 0 1,0", 26, 0, 0, 0},
+    {"2 0 0 3 0 0 0.05/", 26, 0, 0, 0},
+    {"2 0 0 3 0 0 0.05:", 26, 0, 0, 0},
+    /* startup and shutdown not looked at */
+    {"2 x 0 3 0 0 0", 26, 0, 0, 0},
+    {"2 -5 0 3 0 0 0", 26, 0, 0, 0},
+    {"2 0 5. 3 0 0 0", 26, 0, 0, 0},
+    /* 27 or 28 of the square before 26 of the constant */
+    {"2 0 0 3 0.00001 0 x", 26, 0, 0, 0},
+    {"2 0 0 3 0.2 0 x", 26, 0, 0, 0},
+    /* rounded */
+    {"2 0 0 3 0.00001 0 0", 27, 0, 0, 0},
+    {"2 0 0 3 0.00834 0 0", 27, 0, 0, 0},
+    {"2 0 0 3 0 99.999999 0", 27, 0, 0, 0},
+    /* 28 before 27, of one coefficient and of two */
+    {"2 0 0 3 0 0 1000.0000001", 27, 0, 0, 0},
+    {"2 0 0 3 0.2 0.000001 0", 27, 0, 0, 0},
+    {"2 0 0 3 0.2 0 0.0000001", 27, 0, 0, 0},
+    {"2 0 0 3 0.00001 200 0", 27, 0, 0, 0},
+    /* a limit one higher, a decimal fewer */
+    {"2 0 0 3 0.1001 0 0", 28, 0, 0, 0},
+    {"2 0 0 3 0 100.00001 0", 28, 0, 0, 0},
+    {"2 0 0 3 0 0 1000.000001", 28, 0, 0, 0},
+    {"2 0 0 3 0.11 0 0", 28, 0, 0, 0},
+    /* 2 to the power of 32 or 64 read as 0 */
+    {"2 0 0 3 429496.7296 0 0", 28, 0, 0, 0},
+    {"2 0 0 3 1844674407370955.1616 0 0", 28, 0, 0, 0},
+    {"2 0 0 3 0 42949.67296 0", 28, 0, 0, 0},
+    {"2 0 0 3 0 184467440737095.51616 0", 28, 0, 0, 0},
+    {"2 0 0 3 0 0 4294.967296", 28, 0, 0, 0},
+    {"2 0 0 3 0 0 18446744073709.551616", 28, 0, 0, 0},
+};
+
+enum { COST_ROWS = sizeof cost_rows / sizeof cost_rows[0] };
+
+static uint32_t gencost(const char *from, size_t row_length, size_t alignment, size_t answers_room)
+{
+    fill();
+    char *row = copy_of(from, row_length, alignment);
+    uint32_t number = shahfureel_gencost(row, row_length, answers, answers_room);
+    release("gencost", row, from, row_length, alignment);
+    return number;
+}
+
+static void gencost_gives(const char *row, size_t row_length, size_t alignment, size_t answers_room, uint32_t number, const char *what)
+{
+    expect(gencost(row, row_length, alignment, answers_room) == number, "gencost", what);
+    expect(all_kept(), "gencost", "a refusal changes nothing");
+}
+
+static void gencost_reads(const char *row, size_t row_length, size_t alignment, size_t answers_room, const int64_t read[3],
+                          const char *what)
+{
+    expect(gencost(row, row_length, alignment, answers_room) == 0, "gencost", what);
+    expect(memcmp(answers, read, 3 * sizeof read[0]) == 0, "gencost", what);
+    expect(answers_kept_but(3), "gencost", "it writes three answers and no other");
+    expect(bytes_kept_but(byte_space, 0) && numbers_kept_but(0) && floors_kept_but(0), "gencost", "nor another list");
+}
+
+static void reading_cost_rows(size_t a)
+{
+    for (size_t i = 0; i < COST_ROWS; i++) {
+        const char *row = cost_rows[i].row;
+        const int64_t read[3] = {cost_rows[i].c0, cost_rows[i].c1, cost_rows[i].c2};
+        for (size_t room = 0; room < 3; room++)
+            gencost_gives(row, strlen(row), a, room, SHAHFUREEL_BUFFER_TOO_SHORT, "under three answers are 1, before all else");
+        for (size_t room = 3; room <= ANSWERS; room += ANSWERS - 3) {
+            if (cost_rows[i].number == 0)
+                gencost_reads(row, strlen(row), a, room, read, row);
+            else
+                gencost_gives(row, strlen(row), a, room, cost_rows[i].number, row);
+        }
+    }
+}
+
+/* a row of so many bytes: the start, zeros, and the end */
+static void padded(char *row, size_t length, const char *start, const char *end)
+{
+    memset(row, '0', length);
+    memcpy(row, start, strlen(start));
+    memcpy(row + length - strlen(end), end, strlen(end));
+}
+
+/* a row of so many bytes gives a constant of 1 and nothing else, or a number */
+static void cost_row_of(size_t length, size_t a, uint32_t number, const char *start, const char *end, const char *what)
+{
+    static const int64_t one[3] = {1000000, 0, 0};
+    char row[300];
+    padded(row, length, start, end);
+    if (number == 0)
+        gencost_reads(row, length, a, 3, one, what);
+    else
+        gencost_gives(row, length, a, 3, number, what);
+}
+
+static void long_cost_rows(size_t a)
+{
+    static const int64_t square[3] = {0, 0, 1000};
+    char row[300];
+    gencost_gives("2 0 0 3 0 0 0", 0, a, 3, SHAHFUREEL_GENCOST_MALFORMED, "no bytes are 26");
+    gencost_gives("2 0 0 3 0 0 0", 12, a, 3, SHAHFUREEL_GENCOST_MALFORMED, "a row without its last byte is 26");
+    gencost_gives("2 0 0 3 0 0 0", 14, a, 3, SHAHFUREEL_GENCOST_MALFORMED, "a zero byte behind is 26");
+    cost_row_of(255, a, 0, "2 0 0 3 0 0 ", "1", "255 bytes");
+    cost_row_of(256, a, 0, "2 0 0 3 0 0 ", "1", "256 bytes");
+    cost_row_of(256, a, 0, "2 0 0 3 0 0 1.", "", "a constant of 242 decimals");
+    cost_row_of(257, a, SHAHFUREEL_GENCOST_MALFORMED, "2 0 0 3 0 0 ", "1", "257 bytes are 26");
+    cost_row_of(257, a, SHAHFUREEL_GENCOST_MALFORMED, "2 0 0 3 0 0 0.", "1", "257 bytes are 26 before 27");
+    cost_row_of(257, a, SHAHFUREEL_GENCOST_MALFORMED, "2 0 0 3 0 0 1", "", "257 bytes are 26 before 28");
+    cost_row_of(256, a, SHAHFUREEL_GENCOST_NOT_WHOLE, "2 0 0 3 0 0 0.", "1", "a decimal far behind is 27");
+    cost_row_of(256, a, SHAHFUREEL_GENCOST_ABOVE_LIMIT, "2 0 0 3 0 0 1", "", "244 digits are 28");
+    padded(row, 115, "2 0 0 3 0.1", " 0 0");
+    gencost_reads(row, 115, a, 3, square, "0.1 with 100 zeros behind");
+    row[110] = '1';
+    gencost_gives(row, 115, a, 3, SHAHFUREEL_GENCOST_NOT_WHOLE, "0.1 with 99 zeros and a 1 behind is 27");
+    padded(row, 115, "2 0 0 3 ", ".1 0 0");
+    gencost_reads(row, 115, a, 3, square, "0.1 with 100 zeros before");
+}
+
+/* what is read goes into a row by the same names, and is never refused with 8 */
+static void cost_rows_packed(size_t a)
+{
+    static const char text[] = "2 0 0 3 0.1 100 1000";
+    uint32_t row[ROW];
+    memcpy(row, U_ROW, sizeof row);
+    expect(gencost(text, sizeof text - 1, a, SHAHFUREEL_GENCOST_ANSWERS) == 0, "gencost", text);
+    for (size_t k = SHAHFUREEL_ROW_C0; k <= SHAHFUREEL_ROW_C2; k++)
+        row[k] = (uint32_t)answers[k];
+    expect(row[SHAHFUREEL_ROW_C0] == 1000000000 && row[SHAHFUREEL_ROW_C1] == 10000000 && row[SHAHFUREEL_ROW_C2] == 1000, "gencost",
+           "each at its own place of a row");
+    expect(pack(5, row, ROW, a, BYTES) == U5_BYTES, "gencost", "a row with what is read packs");
+}
+
+static void reading_costs(size_t a)
+{
+    reading_cost_rows(a);
+    long_cost_rows(a);
+    cost_rows_packed(a);
+}
+
 /* ---- the header's names and advice */
 
 /* A row whose numbers all differ and fill their fields, and its case file: demand 0x0403 */
@@ -1868,6 +2060,7 @@ static void sizes_named(void)
     expect(SHAHFUREEL_ROW_NUMBERS == ROW && SHAHFUREEL_ROW_EDGES + 8 == ROW, "names", "19 numbers, the last 8 of them edges");
     expect(SHAHFUREEL_REPLY_BYTES == 92 && SHAHFUREEL_ANSWERS == 2, "names", "92 bytes, 2 answers");
     expect(SHAHFUREEL_REFINE_REPLY_BYTES == 94 && SHAHFUREEL_BUDGET_MAX == 100000, "names", "94 bytes, 100,000 nodes");
+    expect(SHAHFUREEL_GENCOST_BYTES_MAX == 256 && SHAHFUREEL_GENCOST_ANSWERS == 3, "names", "256 bytes, 3 answers of a cost row");
     expect(SHAHFUREEL_JUDGE_ANSWERS == 4 && SHAHFUREEL_DEMANDS_MAX == 96, "names", "4 answers of judging, 96 demands");
     expect(SHAHFUREEL_FLOORS_MAX == SHAHFUREEL_DEMANDS_MAX, "names", "the former name of the number of demands");
     expect(SHAHFUREEL_SLOT_BYTES == SLOT && SHAHFUREEL_HISTORIES == 32, "names", "18 bytes to a slot, 32 histories");
@@ -2054,6 +2247,7 @@ int main(void)
         planning(alignment);
         running(alignment);
         refining(alignment);
+        reading_costs(alignment);
         packing(alignment);
         unpacking(alignment);
     }

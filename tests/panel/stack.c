@@ -1,6 +1,6 @@
 /* The stack that each call takes: it is made on a stack of its own, painted before, and what it has written over is counted. No call may
  * take more than include/shahfureel.h says, on the largest cases of either edition and on U5; refining moreover on a case whose search
- * is as deep as one can be. */
+ * is as deep as one can be. Cost rows are of every kind. */
 #define _XOPEN_SOURCE 700
 #include "shahfureel.h"
 
@@ -52,6 +52,18 @@ static void advance(void)
 }
 static void ask(void) { shahfureel_ask(&run, asked, SHAHFUREEL_RUN_ANSWERS); }
 static void refine(void) { shahfureel_refine(file, file_length, BUDGET, refined, sizeof refined); }
+/* rows of every kind: one that is read, one of the most bytes, one of each refusal */
+static void gencost(void)
+{
+    static const char *const texts[] = {"2 1500 0 3 0.085 1.2 600", "2 0 0 3 0 0 x", "2 0 0 3 0.00001 0 0", "2 0 0 3 0 0 1000.1"};
+    static char longest[SHAHFUREEL_GENCOST_BYTES_MAX];
+    memset(longest, '0', sizeof longest);
+    memcpy(longest, "2 0.5 0 3 0 0.", 14);
+    longest[100] = ' ';
+    shahfureel_gencost(longest, sizeof longest, answers, SHAHFUREEL_GENCOST_ANSWERS);
+    for (size_t i = 0; i < sizeof texts / sizeof texts[0]; i++)
+        shahfureel_gencost(texts[i], strlen(texts[i]), answers, SHAHFUREEL_GENCOST_ANSWERS);
+}
 
 static const struct {
     const char *name;
@@ -64,6 +76,7 @@ static const struct {
     {"floors", floor_list, SHAHFUREEL_STACK_FLOORS},   {"day", day, SHAHFUREEL_STACK_DAY},
     {"start", start, SHAHFUREEL_STACK_START},          {"advance", advance, SHAHFUREEL_STACK_ADVANCE},
     {"ask", ask, SHAHFUREEL_STACK_ASK},                {"refine", refine, SHAHFUREEL_REFINE_STACK_BYTES},
+    {"gencost", gencost, SHAHFUREEL_STACK_GENCOST},
 };
 
 enum { CALLS = sizeof calls / sizeof calls[0] };

@@ -1,5 +1,5 @@
 //! The calls of the specification, with their inputs and the size of the buffer that is lent: seven that the runner makes too,
-//! the operations on its run, and two that it leaves out, the day and the search within a budget.
+//! the operations on its run, and three that it leaves out, the day, the search within a budget and a cost row.
 
 use crate::solver::{self, Asked, Numbers, Refused, Run, State};
 
@@ -95,6 +95,15 @@ pub struct Refine {
     pub file: Vec<u8>,
     pub budget: u32,
     pub room: usize,
+}
+
+/// A call for a cost row, and how many answers are lent. Of a row that is made to be read also the answers c0, c1 and c2 that it is made
+/// of.
+#[derive(Clone, Debug)]
+pub struct Gencost {
+    pub row: Vec<u8>,
+    pub room: usize,
+    pub made_of: Option<[i64; 3]>,
 }
 
 /// Numbers of 32 bits as bytes, 4 to a number, most significant byte first.

@@ -1,4 +1,4 @@
-//! The second solver and its test cases, shared by the five programs.
+//! The second solver and its test cases, shared by the six programs.
 
 pub mod branches;
 pub mod budgeted;
@@ -7,6 +7,11 @@ pub mod calls;
 pub mod damage;
 pub mod demands;
 pub mod floored;
+pub mod gencost;
+pub mod gencost_branches;
+pub mod gencost_misread;
+pub mod gencost_rows;
+pub mod gencost_vectors;
 pub mod generate;
 pub mod judged;
 pub mod lent;

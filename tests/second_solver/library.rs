@@ -66,6 +66,7 @@ extern "C" {
     ) -> u32;
     pub fn shahfureel_run_ask(numbers: *const u64, answers: *mut i64, answers_length: usize) -> u32;
     pub fn shahfureel_refine(file: *const u8, file_length: usize, budget: u32, reply: *mut u8, reply_room: usize) -> u32;
+    pub fn shahfureel_gencost(row: *const u8, row_length: usize, answers: *mut i64, answers_room: usize) -> u32;
 }
 
 /// The library's dispatch of a file. (Inline, so that it is compiled only into programs that the library is linked to.)

@@ -41,9 +41,12 @@ pub const POSSIBLE_OF_ASKS_IN_C: &[usize] = &[1];
 /// The numbers that a search within a budget can give.
 pub const POSSIBLE_OF_REFINES: &[usize] = &[1, 2, 3, 4, 5, 6, 7, 8, 9, 10, 11, 18, 25];
 
+/// The numbers that a cost row can give in C.
+pub const POSSIBLE_OF_GENCOSTS: &[usize] = &[1, 26, 27, 28];
+
 /// Counts of one call by number; number 0 stands for an answer.
 #[derive(Default)]
-pub struct Numbers([u64; 26]);
+pub struct Numbers([u64; 29]);
 
 impl Numbers {
     pub fn count(&mut self, refused: Option<Refused>) {

@@ -1,5 +1,6 @@
 // The panel's calls, as C sees them: a slice is a pointer and then a length, an answer is a number. Each does what the call on
-// slices does and tells its answer in numbers (rules 14.1 to 14.4, 18.8, 19.7, 20.8, 21.9, 23.4, 24.11). `include/shahfureel.h` declares them.
+// slices does and tells its answer in numbers (rules 14.1 to 14.4, 18.8, 19.7, 20.8, 21.9, 23.4, 24.11, 25.13). `include/shahfureel.h`
+// declares them.
 ghost use mathlib.Core.Path.{_≡_};
 ghost use mathlib.Core.Bool.{cond};
 ghost use mathlib.Core.List.{[], _∷_};
@@ -15,6 +16,7 @@ ghost use Rattle.judging.specs.Judging.{panelJudged};
 ghost use Rattle.sensitivity.specs.Floors.{panelFloored};
 ghost use Rattle.day.specs.Day.{panelScheduled};
 ghost use Rattle.day.specs.Contracts.{totalOf};
+ghost use Rattle.telling.specs.Told.{panelGencost};
 ghost use Rattle.panel.specs.Contracts.{Answerable};
 ghost use Rattle.panel.specs.DayTold.{fileFor, numberTold, answersTold};
 use day::History;
@@ -268,4 +270,14 @@ pub extern "C" fn shahfureel_run_ask(numbers: &[u64; 41], answers: &mut [i64]) -
     }
     answering::tell_asked(numbers, answers);
     0
+}
+
+#[no_mangle]
+pub extern "C" fn shahfureel_gencost(row: &[u8], answers: &mut [i64]) -> u32
+    ensures { λ n. ⌜ panelGencost (now (row .entry)) (now (answers .entry)) ≡ record { number = n; answers = now (answers .exit) } ⌝ }
+{
+    if answers.len() < 3 {
+        return refusal_number::number(Refusal::BufferTooShort);
+    }
+    telling::tell_costs(gencost::read(row), answers)
 }

@@ -32,5 +32,8 @@ pub fn number(r: Refusal) -> u32
         Refusal::DayBuffersTooShort => 23,
         Refusal::CaseChanged => 24,
         Refusal::BudgetOutOfRange => 25,
+        Refusal::GencostMalformed => 26,
+        Refusal::GencostNotWhole => 27,
+        Refusal::GencostAboveLimit => 28,
     }
 }

@@ -35,6 +35,9 @@ use Rattle.rules.specs.declared.Refusal.the-variants.{
   DayBuffersTooShort,
   CaseChanged,
   BudgetOutOfRange,
+  GencostMalformed,
+  GencostNotWhole,
+  GencostAboveLimit,
 }
 use Rattle.rules.specs.declared.Dispatched.{Dispatched}
 use Rattle.rules.specs.declared.Packed.{Packed}
@@ -70,6 +73,9 @@ number-below-30 DayDemandsInvalid = omega arith
 number-below-30 DayBuffersTooShort = omega arith
 number-below-30 CaseChanged = omega arith
 number-below-30 BudgetOutOfRange = omega arith
+number-below-30 GencostMalformed = omega arith
+number-below-30 GencostNotWhole = omega arith
+number-below-30 GencostAboveLimit = omega arith
 
 -- ---- lengths
 

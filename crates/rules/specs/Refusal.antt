@@ -1,4 +1,4 @@
--- Rules 4.1 to 4.10 of docs/SPECIFICATION.md: the refusals, their numbers, and the checks of a file and of a unit in their order. (The order of each call as a whole is in `Calls`, in `modbus/specs/View`, `judging/specs/Judging`, `sensitivity/specs/Floors`, `day/specs/Day`, `stepping/specs/Runs` and `branching/specs/Refining`.)
+-- Rules 4.1 to 4.10 of docs/SPECIFICATION.md: the refusals, their numbers, and the checks of a file and of a unit in their order. (The order of each call as a whole is in `Calls`, in `modbus/specs/View`, `judging/specs/Judging`, `sensitivity/specs/Floors`, `day/specs/Day`, `stepping/specs/Runs`, `branching/specs/Refining` and `gencost/specs/Row`.)
 use Prim.Native.Nat.{ℕ, zero, suc, _+_, _*_}
 use mathlib.Core.Bool.{Bool, true, cond, not, _&&_, _||_}
 use mathlib.Core.List.{List, [], _∷_}
@@ -36,6 +36,9 @@ use Rattle.rules.specs.declared.Refusal.the-variants.{
   DayBuffersTooShort,
   CaseChanged,
   BudgetOutOfRange,
+  GencostMalformed,
+  GencostNotWhole,
+  GencostAboveLimit,
 }
 use Rattle.rules.specs.declared.Verdict.{Verdict}
 use Rattle.rules.specs.declared.Verdict.the-variants.{Accepted, Refused}
@@ -69,6 +72,9 @@ numberOf DayDemandsInvalid = 22
 numberOf DayBuffersTooShort = 23
 numberOf CaseChanged = 24
 numberOf BudgetOutOfRange = 25
+numberOf GencostMalformed = 26
+numberOf GencostNotWhole = 27
+numberOf GencostAboveLimit = 28
 
 -- what checking finds, as a number: 0 where nothing is refused
 abbrev pub numberOfVerdict : Verdict → ℕ

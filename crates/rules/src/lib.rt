@@ -49,8 +49,14 @@ pub enum Refusal {
     // Of a day: a trace under 18 bytes a demand, or under 32 histories.
     DayBuffersTooShort,
     CaseChanged,
-    // A budget of nodes outside 1 to 100,000.
+    // A budget outside 1 to 100,000 nodes.
     BudgetOutOfRange,
+    // A cost row of another form than MATPOWER's quadratic one, or of more than 256 bytes.
+    GencostMalformed,
+    // A cost row with a coefficient that is finer than a unit's coefficient can hold.
+    GencostNotWhole,
+    // A cost row with a coefficient above the limit of a unit's.
+    GencostAboveLimit,
 }
 
 // What checking finds.

@@ -1,0 +1,12 @@
+pub mod Claims
+pub mod Forms
+pub mod Grammar
+pub mod Numbers
+pub mod Placing
+pub mod Reading
+pub mod Runs
+pub mod Scanning
+pub mod Table
+pub mod Taking
+pub mod Values
+pub mod Words

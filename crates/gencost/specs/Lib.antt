@@ -1,0 +1,4 @@
+pub mod Row
+pub mod Contracts
+pub mod Cases
+pub mod Claims
