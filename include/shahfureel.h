@@ -517,7 +517,7 @@ uint32_t shahfureel_day(const uint8_t *file, size_t file_length, const uint32_t 
  *   - The order of the units in the file matters to the search, though not to what is permitted: put those first whose greatest
  *     output is the dearest for each step; mostly it then ends sooner, or has a smaller gap at the same budget.
  *   - The time grows with the nodes that are evaluated; the stack and the reply do not. A node makes at most 18
- *     evaluations, as a dispatch does; the largest budget takes some tenths of a second at 32 units (docs/PERFORMANCE.md has the
+ *     evaluations, as a dispatch does; the largest budget takes about a tenth of a second at 32 units (docs/PERFORMANCE.md has the
  *     time of a node). A call cannot be interrupted.
  *   - The stack grows with the number of regions, up to SHAHFUREEL_REFINE_STACK_BYTES for 32 units of six regions each. A thread
  *     may have less than that by default: see to it where you make one.
