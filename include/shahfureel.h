@@ -118,7 +118,7 @@ extern "C" {
 #define SHAHFUREEL_STACK_ADVANCE 4096u
 #define SHAHFUREEL_STACK_ASK 512u
 #define SHAHFUREEL_STACK_GENCOST 512u
-#define SHAHFUREEL_REFINE_STACK_BYTES 73728u /* it calls itself, up to 161 calls deep */
+#define SHAHFUREEL_REFINE_STACK_BYTES 131072u /* it calls itself, up to 161 calls deep */
 
 /* ---- editions of the case file. Edition 1 is what shahfureel_pack writes and shahfureel_unpack reads. In edition 2 each unit
  * also has b1, a linear loss, from -10,000,000 to 10,000,000: at output p the unit loses b1 * p hundred-millionths of a step
@@ -516,9 +516,9 @@ uint32_t shahfureel_day(const uint8_t *file, size_t file_length, const uint32_t 
  *     you are content, as examples/refine.c does: the budgets of all these calls together are a ninth more than the last.
  *   - The order of the units in the file matters to the search, though not to what is permitted: put those first whose greatest
  *     output is the dearest for each step; mostly it then ends sooner, or has a smaller gap at the same budget.
- *   - The time grows with the nodes that are evaluated; the stack and the reply do not. A node makes at most 18
- *     evaluations, as a dispatch does; the largest budget takes about a tenth of a second at 32 units (docs/PERFORMANCE.md has the
- *     time of a node). A call cannot be interrupted.
+ *   - The time grows with the nodes that are evaluated; the stack and the reply do not. Most nodes are decided by what is known of
+ *     the node that they are a part of; no node takes longer than a dispatch and a few evaluations more. The largest budget took 13
+ *     to 20 milliseconds at 32 units (docs/PERFORMANCE.md has the time of a node). A call cannot be interrupted.
  *   - The stack grows with the number of regions, up to SHAHFUREEL_REFINE_STACK_BYTES for 32 units of six regions each. A thread
  *     may have less than that by default: see to it where you make one.
  *   - That more load is never cheaper is promised of shahfureel_dispatch and not here: at one budget above 1 a higher demand may

@@ -1,5 +1,6 @@
 pub mod NodeByNode
 pub mod Visits
+pub mod Closed
 pub mod Budgets
 pub mod FirstNode
 pub mod Nodes

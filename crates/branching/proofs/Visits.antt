@@ -90,7 +90,7 @@ least-more : (a b : ℕ) (xs : List ℕ) → a ≤ b → leastOr a xs ≤ leastO
 least-more a b [] h = h
 least-more a b (x ∷ xs) h = omega (arith, least-more a b xs h)
 
-least-at-most : (a : ℕ) (xs : List ℕ) → leastOr a xs ≤ a
+pub least-at-most : (a : ℕ) (xs : List ℕ) → leastOr a xs ≤ a
 least-at-most a [] = omega arith
 least-at-most a (x ∷ xs) = omega (arith, least-at-most a xs)
 

@@ -1,15 +1,15 @@
 -- Refine by where it ends. The arrays hold the root of the file's search; a visit of it, from a best that is dearer than its dispatch, is the search; and what is stated of that is the reply.
-use Prim.Native.Nat.{ℕ, _+_, _*_, _-_, _≤_, _<_, min}
+use Prim.Native.Nat.{ℕ, _+_, _-_, _≤_, _<_, min}
 use native.Mathlib.Omega.{arith}
-use mathlib.Core.Path.{_≡_, refl, sym, ap, ap₂, subst, _∙_}
+use mathlib.Core.Path.{_≡_, refl, sym, ap, subst, _∙_}
 use mathlib.Core.Bool.{true}
-use mathlib.Core.List.{List, [], map}
+use mathlib.Core.List.{List, []}
 use lib.ListN.{length, getD, take, length-map}
 use Rattle.rules.specs.Lists.{each, over}
 use Rattle.rules.specs.Unit.{Unit}
 use Rattle.rules.specs.Regions.{regions}
 use Rattle.rules.specs.Layout.{count, unitAt, caseOf}
-use Rattle.rules.specs.Problem.{Problem, Offer, offer, problemOf, problemIn}
+use Rattle.rules.specs.Problem.{Problem, offer, problemOf, problemIn}
 use Rattle.rules.specs.Bisection.{Reply, solvable, solve}
 use Rattle.rules.specs.Calls.{caseVerdict}
 use Rattle.rules.specs.declared.Refusal.{Refusal}
@@ -24,19 +24,19 @@ use Rattle.site.proofs.UnitsWritten.{mapped}
 use Rattle.evaluation.specs.Contracts.{First}
 use Rattle.evaluation.proofs.Offers.{held-proper}
 use Rattle.bisection.proofs.Starting.{greatest-held}
-use Rattle.branching.specs.Branching.{Progress, leastOr, bound, visit, search}
-use Rattle.branching.specs.Nodes.{NodeUnit, problemAt, tree, root, RefinedReply, replyOfSearch, refinedReply}
+use Rattle.branching.specs.Branching.{Progress, visit, search}
+use Rattle.branching.specs.Nodes.{NodeUnit, problemAt, tree, root, replyOfSearch, refinedReply}
 use Rattle.branching.specs.Refining.{refinedBytes, refineEnds, refined}
 use Rattle.branching.specs.Claims.{Asked}
-use Rattle.branching.proofs.Visits.{least-with, visits-cheaper}
 use Rattle.branching.proofs.NodeByNode.{search-from}
 use Rattle.branching.proofs.Nodes.{reply-best, root-problem}
 use Rattle.branching.proofs.Enough.{file-160}
 use Rattle.branching.proofs.Claims.{by-case}
-use Rattle.refining.specs.declared.visiting.Progress as code-progress
-use Rattle.refining.specs.declared.visiting.Limits as code-limits
+use Rattle.nodes.specs.declared.Progress as code-progress
+use Rattle.nodes.specs.declared.Node as code-node
+use Rattle.nodes.specs.Contracts.{SumsAt, HoldsProgress}
 use Rattle.refining.specs.declared.reply.Refined as code-refined
-use Rattle.refining.specs.Contracts.{HoldsNodeUnit, noUnit, NodeHeld, HoldsProgress, Visits, refinedHeld}
+use Rattle.refining.specs.Contracts.{HoldsNodeUnit, noUnit, NodeHeld, Visits, refinedHeld}
 
 -- ---- the root
 
@@ -122,26 +122,21 @@ module _ {file coefficients ends ranges outputs : List ℕ} {n t c w : ℕ} (f :
     from-first : visit (tree d) budget 160 0 (root (caseOf file)) begun ≡ found
     from-first = search-from (tree d) budget 160 (root (caseOf file)) some solves first (omega (arith, at-most))
 
-    best-at-most : found .best .cost ≤ c + 1
-    best-at-most = subst (λ (s : Progress Reply). s .best .cost ≤ c + 1) from-first (visits-cheaper (tree d) budget 160 0 (root (caseOf file)) begun)
-
-    module _ {r : code-progress.Progress} {best : List ℕ} (h : HoldsProgress (c + 1) n found r best) where
+    module _ {r : code-progress.Progress} {best : List ℕ} (h : HoldsProgress n found r best) where
       -- what is stated of it
       abbrev told : code-refined.Refined
       told = record { nodes = r .visited; cost = r .cost; gap = r .cost - min (r .cost) (r .floor); surplus = r .surplus; outputs = best }
 
-      gap-is : r .cost - min (r .cost) (r .floor) ≡ found .best .cost - bound (tree d) found
-      gap-is = ap₂ (λ (x y : ℕ). x - min x y) (h .cost) (h .floor) ∙ ap (λ (x : ℕ). found .best .cost - x) (least-with (found .best .cost) (c + 1) (found .floors) best-at-most)
-
       told-is : refinedHeld n told ≡ replyOfSearch d found
       unfolding replyOfSearch
-      told-is = λ i. record { nodes = h .visited i; cost = h .cost i; gap = gap-is i; surplus = h .surplus i; outputs = h .outputs i }
+      told-is = λ i. record { nodes = h .visited i; cost = h .cost i; gap = h .cost i - h .bound i; surplus = h .surplus i; outputs = h .outputs i }
 
-    pub refined-is : {r : code-progress.Progress} {best : List ℕ} → Visits coefficients ends ranges (record { count = n; target = t; budget = budget }) 160 0 (record { visited = 0; cost = c + 1; surplus = 0; floor = c + 1 }) outputs r best → refinedHeld n (record { nodes = r .visited; cost = r .cost; gap = r .cost - min (r .cost) (r .floor); surplus = r .surplus; outputs = best }) ≡ refinedReply budget (caseOf file)
-    refined-is {r} {best} v =
-        let start : HoldsProgress (c + 1) n begun (record { visited = 0; cost = c + 1; surplus = 0; floor = c + 1 }) outputs = record { visited = refl; cost = refl; surplus = refl; outputs = refl; floor = refl } in
-        let h = v .visits d (root (caseOf file)) (root-held budget) (c + 1) begun start in
-        told-is (subst (λ (s : Progress Reply). HoldsProgress (c + 1) n s r best) from-first h) ∙ sym (file-160 file (f .site .accepted) budget)
+    pub refined-is : {x : code-node.Node} {r : code-progress.Progress} {best : List ℕ} → x .parent ≡ 0 → SumsAt (problemAt d (root (caseOf file)) .offers) x → Visits coefficients ends ranges (record { count = n; target = t; budget = budget }) 160 x (record { visited = 0; cost = c + 1; surplus = 0; floor = c + 1 }) outputs r best → refinedHeld n (record { nodes = r .visited; cost = r .cost; gap = r .cost - min (r .cost) (r .floor); surplus = r .surplus; outputs = best }) ≡ refinedReply budget (caseOf file)
+    refined-is {x} {r} {best} top sums v =
+        let start : HoldsProgress n begun (record { visited = 0; cost = c + 1; surplus = 0; floor = c + 1 }) outputs = record { visited = refl; cost = refl; surplus = refl; outputs = refl; bound = omega arith } in
+        let h = v .visits d (root (caseOf file)) (root-held budget) sums begun start in
+        let same : visit (tree d) budget 160 (x .parent) (root (caseOf file)) begun ≡ found = ap (λ (f : ℕ). visit (tree d) budget 160 f (root (caseOf file)) begun) top ∙ from-first in
+        told-is (subst (λ (s : Progress Reply). HoldsProgress n s r best) same h) ∙ sym (file-160 file (f .site .accepted) budget)
 
 -- ---- the ends
 

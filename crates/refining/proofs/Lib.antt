@@ -1,5 +1,6 @@
 pub mod Ranged
 pub mod NodesHeld
+pub mod Exchanged
 pub mod ProgressHeld
 pub mod NodeVisited
 pub mod RefinedWritten

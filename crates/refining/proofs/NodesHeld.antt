@@ -1,30 +1,28 @@
 -- The arrays hold a node: then they hold its problem; and with the range of its first unit with several regions changed they hold its parts.
-use mathlib.Core.Path.{_≡_, refl, sym, ap, subst, _∙_}
-use mathlib.Core.Bool.{Bool, true, false, cond, _&&_, _||_, true≢false}
+use mathlib.Core.Path.{_≡_, refl, sym, ap, _∙_}
+use mathlib.Core.Bool.{Bool, true, false, _||_, true≢false}
 use mathlib.Core.List.{List, [], _∷_, map}
-use mathlib.Core.Logic.{_⊎_, inl, inr, ⊎-elim, _↔_}
-use Prim.Native.Nat.{ℕ, zero, suc, _+_, _*_, _-_, _≤_, _<_}
+use Prim.Native.Nat.{ℕ, zero, suc, _+_, _-_, _≤_, _<_}
 use native.Mathlib.Omega.{arith}
 use native.Mathlib.Decide.{ℕ-discrete}
-use lib.Dec.{ltb, leb}
+use lib.Dec.{leb}
 use lib.ListN.{length, getD, set, length-set, length-map}
 use lib.Seq.{getD-set-same, getD-set-other}
 use borrow.Author.Tests.{leb-true, le-leb, lt-ltb, le-ltb}
 use Rattle.rules.specs.Lists.{each}
 use Rattle.rules.specs.Unit.{permitted}
 use Rattle.rules.specs.Regions.{Region, inRegion, inSome}
-use Rattle.rules.specs.Problem.{Problem, target}
-use Rattle.rules.specs.Offers.{Among}
+use Rattle.rules.specs.Problem.{target}
 use Rattle.rules.proofs.Verdicts.{and-true}
 use Rattle.rules.proofs.Lists.{length-each, each-from}
 use Rattle.regions.specs.Regions.{low, high, Inside, heldFrom}
-use Rattle.site.specs.Site.{first, last, Within, regionsAt, HoldsOffer, HoldsProblem, noOffer}
+use Rattle.site.specs.Site.{first, last, HoldsOffer, noOffer}
 use Rattle.site.proofs.UnitsWritten.{mapped}
-use Rattle.bisection.specs.Contracts.{Holding, Searchable}
+use Rattle.bisection.specs.Contracts.{Holding}
 use Rattle.branching.specs.Nodes.{NodeUnit, offerWithin, problemAt, hasSeveral, lowestOf, restOf, anySeveral, divided}
 use Rattle.branching.proofs.Nodes.{offered, within-proper, some-lowest, some-rest}
-use Rattle.refining.specs.declared.visiting.Limits as code-limits
-use Rattle.refining.specs.Contracts.{ranged, FirstSeveral, HoldsNodeUnit, HoldsNode, NodeHeld, noUnit, Visitable}
+use Rattle.nodes.specs.declared.Limits as code-limits
+use Rattle.refining.specs.Contracts.{ranged, FirstSeveral, HoldsNodeUnit, HoldsNode, NodeHeld, noUnit}
 use Rattle.refining.proofs.Ranged.{ranged-first, ranged-last, ranged-first-other, ranged-last-other}
 
 -- ---- p in one of the regions of an array
@@ -111,10 +109,12 @@ module _ {coefficients ends ranges : List ℕ} {l : code-limits.Limits} {d : ℕ
         demanded = h .target;
       }
 
-  pub node-searchable : Searchable coefficients ends ranges (l .count) (l .target)
-  node-searchable = record { problem = problemAt d x; holds = node-problem }
-
 -- ---- the first unit with several regions
+
+map-set : {A B : Type 0} (f : A → B) (xs : List A) (k : ℕ) (x : A) → map f (set xs k x) ≡ set (map f xs) k (f x)
+map-set f [] k x = refl
+map-set f (y ∷ ys) zero x = refl
+map-set f (y ∷ ys) (suc k) x = ap (λ (zs : List _). f y ∷ zs) (map-set f ys k x)
 
 none-several : (x : List NodeUnit) → ((j : ℕ) → j < length x → hasSeveral (getD x j noUnit) ≡ false) → anySeveral x ≡ false
 none-several [] f = refl
@@ -164,6 +164,14 @@ module _ {coefficients ends ranges : List ℕ} {n k : ℕ} {x : List NodeUnit} (
 
     pub small : b < 192
     small = omega (arith, unit .to, h .few)
+
+    -- the other offers are as they were
+    offers-exchanged : (part : List Region → List Region) → map offerWithin (divided part x) ≡ set (map offerWithin x) k (getD (map offerWithin (divided part x)) k noOffer)
+    offers-exchanged part =
+        let h′ : NodeUnit = record { unit = own .unit; regions = part (own .regions) } in
+        let is = divided-at part x k none-before (omega (arith, h .count)) (several-regions unit (f .several some)) in
+        let here : getD (map offerWithin (set x k h′)) k noOffer ≡ offerWithin h′ = mapped offerWithin (set x k h′) k noUnit noOffer (rw length-set (omega (arith, h .count))) ∙ ap offerWithin (getD-set-same x k h′ noUnit (omega (arith, h .count))) in
+        rw is (map-set offerWithin x k h′ ∙ ap (set (map offerWithin x) k) (sym here))
 
     -- a part of the unit's regions, from c to e
     module _ (part : List Region → List Region) (less : (p : ℕ) (rs : List Region) → inSome p (part rs) ≡ true → inSome p rs ≡ true) (c e : ℕ) (from : a ≤ c) (order : c ≤ e) (to : e ≤ b) (regions : heldFrom ends c (e + 1 - c) ≡ part (own .regions)) where
@@ -237,3 +245,10 @@ module _ {coefficients ends ranges : List ℕ} {n k : ℕ} {x : List NodeUnit} (
 
     pub rest-held : HoldsNode coefficients ends (ranged ranges k (a + 1) b) n (divided restOf x)
     rest-held = part-held restOf some-rest (a + 1) b (omega arith) (omega (arith, ordered)) (omega arith) (rw (← unit .regions, several))
+
+    -- the offers of the parts
+    pub lowest-exchanged : map offerWithin (divided lowestOf x) ≡ set (map offerWithin x) k (getD (map offerWithin (divided lowestOf x)) k noOffer)
+    lowest-exchanged = offers-exchanged lowestOf
+
+    pub rest-exchanged : map offerWithin (divided restOf x) ≡ set (map offerWithin x) k (getD (map offerWithin (divided restOf x)) k noOffer)
+    rest-exchanged = offers-exchanged restOf

@@ -1,19 +1,24 @@
--- What is asked and answered between the functions of the search: the arrays hold a node if they hold each of its units with the regions that the node leaves it; a number and the lent best outputs hold what a search has. A visit of any node that the arrays hold then gives what `Branching.visit` says.
-use Prim.Native.Nat.{ℕ, suc, _+_, _*_, _≤_, _<_}
+-- What is asked and answered between the functions of the search: the arrays hold a node if they hold each of its units with the regions that the node leaves it; numbers with the lent best outputs hold what a search has (crate `nodes`). A visit of any node that the arrays hold then gives what `Branching.visit` says.
+use Prim.Native.Nat.{ℕ, _+_, _*_, _≤_, _<_}
 use mathlib.Core.Path.{_≡_}
 use mathlib.Core.Bool.{true}
 use mathlib.Core.List.{List, []}
 use lib.ListN.{length, getD, take, set}
-use Rattle.rules.specs.Unit.{Unit, permitted}
+use Rattle.rules.specs.Unit.{permitted}
 use Rattle.rules.specs.Regions.{inSome}
-use Rattle.rules.specs.Bisection.{Reply, solvable}
-use Rattle.site.specs.Site.{first, last, Coefficients, Regions, regionsAt, noOffer}
-use Rattle.bisection.specs.Contracts.{Holding}
-use Rattle.branching.specs.Branching.{Progress, evaluated, floorOf, leastOr, visit}
+use Rattle.rules.specs.Lists.{Every}
+use Rattle.rules.specs.Problem.{Offer, Problem}
+use Rattle.rules.specs.Offers.{Available}
+use Rattle.rules.specs.Bisection.{Reply}
+use Rattle.site.specs.Site.{first, last, Coefficients, Regions, regionsAt, HoldsOffer, HoldsProblem, noOffer}
+use Rattle.sums.specs.Sums.{HoldsTerm, TermHeld, Terms}
+use Rattle.branching.specs.Branching.{Progress, visit}
 use Rattle.branching.specs.Nodes.{NodeUnit, problemAt, tree, RefinedReply}
-use Rattle.refining.specs.declared.visiting.Progress as code-progress
-use Rattle.refining.specs.declared.visiting.Limits as code-limits
-use Rattle.refining.specs.declared.visiting.NodeEvaluation as code-evaluation
+use Rattle.nodes.specs.declared.Progress as code-progress
+use Rattle.nodes.specs.declared.Limits as code-limits
+use Rattle.nodes.specs.declared.Node as code-node
+use Rattle.nodes.specs.Contracts.{SumsAt, HoldsProgress}
+use Rattle.refining.specs.declared.exchanging.UnitTerms as code-terms
 use Rattle.refining.specs.declared.reply.Refined as code-refined
 
 -- ---- ranges
@@ -54,38 +59,57 @@ pub record NodeHeld (coefficients ends ranges : List ℕ) (l : code-limits.Limit
   pub demand : d ≤ 320000
   pub target : l .target ≡ 100000000 * d
 
--- they hold some node
-pub record Visitable (coefficients ends ranges : List ℕ) (l : code-limits.Limits) : Type 0 where
+-- they hold some node, whose sums at its two multipliers x has
+pub record Visitable (coefficients ends ranges : List ℕ) (l : code-limits.Limits) (x : code-node.Node) : Type 0 where
   pub demand : ℕ
   pub node : List NodeUnit
   pub held : NodeHeld coefficients ends ranges l demand node
+  pub sums : SumsAt (problemAt demand node .offers) x
+  pub multiplier : x .multiplier ≤ 65535
 
--- ---- what a search has
+-- ---- the sums of a node
 
--- s and the array hold p; of the floors left open s has the least, or c if that is less
-pub record HoldsProgress (c n : ℕ) (p : Progress Reply) (s : code-progress.Progress) (best : List ℕ) : Type 0 where
-  pub visited : s .visited ≡ p .visited
-  pub cost : s .cost ≡ p .best .cost
-  pub surplus : s .surplus ≡ p .best .surplus
-  pub outputs : take n best ≡ p .best .outputs
-  pub floor : s .floor ≡ leastOr c (p .floors)
+-- x has the parent's floor f, and the sums at m and m + 1 of every problem that the arrays hold
+pub record SumsHeld (coefficients ends ranges : List ℕ) (n f m : ℕ) (x : code-node.Node) : Type 0 where
+  pub parent : x .parent ≡ f
+  pub multiplier : x .multiplier ≡ m
+  pub sums : (q : Problem) → HoldsProblem coefficients ends ranges n q → SumsAt (q .offers) x
 
--- ---- one node
+-- of every such problem whose sums x has
+pub record SumsKept (coefficients ends ranges : List ℕ) (n f m : ℕ) (x r : code-node.Node) : Type 0 where
+  pub parent : r .parent ≡ f
+  pub multiplier : r .multiplier ≡ m
+  pub sums : (q : Problem) → HoldsProblem coefficients ends ranges n q → SumsAt (q .offers) x → SumsAt (q .offers) r
 
--- the node x evaluated
-pub record EvaluatedAt (l : code-limits.Limits) (parent d : ℕ) (x : List NodeUnit) (c : ℕ) (p : Progress Reply) (r : code-evaluation.NodeEvaluation) (best : List ℕ) : Type 0 where
-  pub tells : r .solvable ≡ solvable (problemAt d x)
-  pub floor : solvable (problemAt d x) ≡ true → r .floor ≡ floorOf (tree d) parent x
-  pub progress : HoldsProgress c (l .count) (evaluated (tree d) x p) (r .progress) best
+-- the terms of unit k of the arrays at m and at m + 1
+pub record HoldsUnitTerms (coefficients ends ranges : List ℕ) (k m : ℕ) (r : code-terms.UnitTerms) : Type 0 where
+  pub low : Terms coefficients ends ranges k m (r .low)
+  pub high : Terms coefficients ends ranges k (m + 1) (r .high)
 
--- of every node whose problem the arrays hold, and whatever is held of a search before
-pub record EvaluatesNode (coefficients ends ranges : List ℕ) (l : code-limits.Limits) (parent : ℕ) (s : code-progress.Progress) (before : List ℕ) (r : code-evaluation.NodeEvaluation) (best : List ℕ) : Type 0 where
-  pub evaluates : (d : ℕ) (x : List NodeUnit) → Holding coefficients ends ranges (l .count) (l .target) (problemAt d x) → (c : ℕ) (p : Progress Reply) → HoldsProgress c (l .count) p s before → EvaluatedAt l parent d x c p r best
+-- x has the sums of some offers, and old the terms of number k in them
+pub record SumsWith (os : List Offer) (k : ℕ) (x : code-node.Node) (old : code-terms.UnitTerms) : Type 0 where
+  pub sums : SumsAt os x
+  pub low : HoldsTerm (x .multiplier) (getD os k noOffer) (old .low)
+  pub high : HoldsTerm (x .multiplier + 1) (getD os k noOffer) (old .high)
 
--- ---- a visit of every node that the arrays hold
+pub record NodeExchangeable (coefficients ends ranges : List ℕ) (k : ℕ) (x : code-node.Node) (old : code-terms.UnitTerms) : Type 0 where
+  pub unit : TermHeld coefficients ends ranges k (x .multiplier + 1)
+  pub offers : List Offer
+  pub available : Every Available offers
+  pub few : length offers ≤ 32
+  pub place : k < length offers
+  pub sums : SumsWith offers k x old
 
-pub record Visits (coefficients ends ranges : List ℕ) (l : code-limits.Limits) (left parent : ℕ) (s : code-progress.Progress) (before : List ℕ) (r : code-progress.Progress) (best : List ℕ) : Type 0 where
-  pub visits : (d : ℕ) (x : List NodeUnit) → NodeHeld coefficients ends ranges l d x → (c : ℕ) (p : Progress Reply) → HoldsProgress c (l .count) p s before → HoldsProgress c (l .count) (visit (tree d) (l .budget) left parent x p) r best
+-- r has the sums of these offers with another for number k, which is unit k of the arrays
+pub record ExchangesNode (coefficients ends ranges : List ℕ) (k : ℕ) (x : code-node.Node) (old : code-terms.UnitTerms) (r : code-node.Node) : Type 0 where
+  pub parent : r .parent ≡ x .parent
+  pub multiplier : r .multiplier ≡ x .multiplier
+  pub sums : (os : List Offer) (o : Offer) → k < length os → SumsWith os k x old → HoldsOffer coefficients ends ranges k o → SumsAt (set os k o) r
+
+-- ---- a visit of every node that the arrays hold and whose sums x has
+
+pub record Visits (coefficients ends ranges : List ℕ) (l : code-limits.Limits) (left : ℕ) (x : code-node.Node) (s : code-progress.Progress) (before : List ℕ) (r : code-progress.Progress) (best : List ℕ) : Type 0 where
+  pub visits : (d : ℕ) (y : List NodeUnit) → NodeHeld coefficients ends ranges l d y → SumsAt (problemAt d y .offers) x → (p : Progress Reply) → HoldsProgress (l .count) p s before → HoldsProgress (l .count) (visit (tree d) (l .budget) left (x .parent) y p) r best
 
 -- ---- the reply
 

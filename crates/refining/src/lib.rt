@@ -3,16 +3,18 @@
 ghost use mathlib.Core.Path.{_≡_};
 ghost use Rattle.branching.specs.Refining.{refined};
 
+mod exchanging;
 mod reply;
 mod visiting;
 
 use evaluation::FirstBest;
+use exchanging::node_at;
+use nodes::Limits;
+use nodes::Progress;
 use reply::stated;
 use reply::write_refined;
 use rules::Dispatched;
 use rules::Refusal;
-use visiting::Limits;
-use visiting::Progress;
 use visiting::visit;
 
 // Refines the dispatch of the case file: writes the reply and gives its length, or refuses and leaves the reply's bytes as they were.
@@ -54,13 +56,14 @@ pub fn refine(file: &[u8], budget: u32, reply: &mut [u8]) -> Dispatched
                 target,
                 budget,
             };
+            let root = node_at(&coefficients, &ends, &ranges, count, 0, 0);
             let s = visit(
                 &coefficients,
                 &ends,
                 &mut ranges,
                 limits,
                 160,
-                0,
+                root,
                 start,
                 &mut best,
             );

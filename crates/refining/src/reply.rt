@@ -5,8 +5,8 @@ ghost use lib.ListN.{length};
 ghost use Rattle.rules.specs.Lists.{over};
 ghost use Rattle.branching.specs.Refining.{refinedBytes};
 ghost use Rattle.refining.specs.Contracts.{refinedHeld};
-use crate::visiting::Progress;
 use crate::visiting::lower_of;
+use nodes::Progress;
 
 // What the reply states, besides the number of units.
 pub struct Refined {

@@ -1,18 +1,19 @@
 -- `refining::refine` meets its contract: each return is one end of the definition (`Endings`).
 use native.Mathlib.Omega.{arith}
-use Prim.Native.Nat.{ℕ, _+_, _≤_}
-use mathlib.Core.Path.{_≡_, ap, _∙_}
+use Prim.Native.Nat.{ℕ}
+use mathlib.Core.Path.{ap, _∙_}
 use mathlib.Core.Logic.{inl, inr}
-use lib.ListN.{length}
 use denote.Ref.{now}
 use borrow.Author.Needs.{needs}
 use Rattle.rules.specs.Layout.{caseOf}
 use Rattle.evaluation.specs.Contracts.{First}
 use Rattle.evaluation.proofs.Covering.{first-found, first-refused}
-use Rattle.branching.specs.Nodes.{root}
+use Rattle.branching.specs.Nodes.{problemAt, root}
+use Rattle.nodes.specs.Contracts.{SumsAt}
 use Rattle.branching.specs.Claims.{Asked}
 use Rattle.branching.proofs.Claims.{room-refused, budget-refused}
 use Rattle.refining.specs.Contracts.{refinedHeld}
+use Rattle.refining.proofs.NodesHeld.{node-problem}
 use Rattle.refining.proofs.Endings.{root-held, refined-is, refused, replied}
 use Rattle.refining.proofs.refine.Statement.{statement}
 use Rattle.refining.proofs.refine.Tie as tie
@@ -61,13 +62,26 @@ module _ (c : tie.After-known-told2) where
 add-dearer : tie.Need-add-dearer
 add-dearer c = omega (arith, first c .allocates .sized .cost, first c .site .holds .few)
 
+node-at-requires : tie.Need-node-at-requires
+node-at-requires c κs =
+    let t = c .before .before .before in
+    (record { problem = _; holds = first t .site .holds }, omega arith)
+
+-- the root's sums
+root-sums : (a : tie.After-node-at) → let t = a .before .before .before .before in SumsAt (problemAt (caseOf (now (entry (d t) .args .file)) .demand) (root (caseOf (now (entry (d t) .args .file)))) .offers) (a .node-at .result)
+root-sums a = let t = a .before .before .before .before in a .node-at .ensures .sums _ (node-problem (root-held (first t) (entry (d t) .args .budget)) .problem)
+
 visit-requires : tie.Need-visit-requires
 visit-requires c κs =
-    let t = c .before .before .before .before in
-    record { demand = caseOf (now (entry (d t) .args .file)) .demand; node = root (caseOf (now (entry (d t) .args .file))); held = root-held (first t) (entry (d t) .args .budget) }
+    let a = c .before .before .before .before in
+    let t = a .before .before .before .before in
+    record { demand = caseOf (now (entry (d t) .args .file)) .demand; node = root (caseOf (now (entry (d t) .args .file))); held = root-held (first t) (entry (d t) .args .budget); sums = root-sums a; multiplier = omega (arith, a .node-at .ensures .multiplier) }
+
+abbrev rooted : tie.After-visit → tie.After-node-at
+rooted c = c .before .before .before .before .before
 
 abbrev told : tie.After-visit → tie.After-known-told2
-told c = c .before .before .before .before .before
+told c = rooted c .before .before .before .before
 
 stated-requires : tie.Need-stated-requires
 stated-requires c κs = search needs
@@ -91,7 +105,7 @@ returns-5 c =
     let v = w .before .before .before in
     let t = told v in
     let n = t .before .first2 .given .0 .0 in
-    let is = ap (refinedHeld n) (w .before .stated .ensures) ∙ refined-is (first t) (entry (d t) .args .budget) (asked (d t) .least) (v .visit .ensures .1) in
+    let is = ap (refinedHeld n) (w .before .stated .ensures) ∙ refined-is (first t) (entry (d t) .args .budget) (asked (d t) .least) (rooted v .node-at .ensures .parent) (root-sums (rooted v)) (v .visit .ensures .1) in
     replied _ _ _ (asked (d t)) (first t .accepted) n (w .before .stated .result) is (w .write-refined .ensures .0) (w .write-refined .ensures .1)
 
 pub refine-spec : {M : Type 1} → statement M
@@ -105,6 +119,7 @@ refine-spec =
     enum-known-first
     enum-known-first-2
     add-dearer
+    node-at-requires
     visit-requires
     stated-requires
     write-refined-requires

@@ -4,7 +4,6 @@ use native.Mathlib.Omega.{arith}
 use native.Mathlib.Decide.{ℕ-discrete}
 use mathlib.Core.Path.{_≡_}
 use mathlib.Core.List.{List}
-use borrow.Author.Needs.{needs}
 use Rattle.site.specs.Site.{first, last}
 use Rattle.refining.proofs.visiting.first_several.Statement.{statement}
 use Rattle.refining.proofs.visiting.first_several.Tie as tie

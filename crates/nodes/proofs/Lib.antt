@@ -1,0 +1,3 @@
+pub mod Confirmed
+pub mod TwoMultipliers
+pub mod NodeEvaluated
