@@ -78,7 +78,7 @@ static uint32_t make_demand(uint64_t *state, const uint32_t *rows, uint32_t unit
     return random_between(state, sum / 5, sum / 10 * 9);
 }
 
-static void pack_case(struct case_file *c, uint32_t demand, const uint32_t *rows, uint32_t units)
+void pack_case(struct case_file *c, uint32_t demand, const uint32_t *rows, uint32_t units)
 {
     c->length = shahfureel_pack(demand, rows, SHAHFUREEL_ROW_NUMBERS * units, c->bytes, sizeof c->bytes);
     if (c->length < SHAHFUREEL_LENGTH_MIN) {
@@ -116,7 +116,7 @@ static int32_t make_b1(uint64_t *state, uint32_t b)
 }
 
 /* b1 stands behind byte 25 of each body; so body i, from 0, starts 4 * i bytes later. */
-void to_edition_2(uint64_t *state, const struct case_file *from, struct case_file *to)
+void widen(const struct case_file *from, struct case_file *to, const int32_t *b1)
 {
     uint32_t units = get_u16(from->bytes + 2);
     memcpy(to->bytes, from->bytes, 8 + 4 * (size_t)units);
@@ -128,10 +128,19 @@ void to_edition_2(uint64_t *state, const struct case_file *from, struct case_fil
         put(to->bytes + 8 + 4 * i, offset + B1_BYTES * i, 2);
         put(to->bytes + 10 + 4 * i, length + B1_BYTES, 2);
         memcpy(widened, body, B1_AT);
-        put(widened + B1_AT, (uint32_t)make_b1(state, get_u16(body + B_AT)), B1_BYTES);
+        put(widened + B1_AT, (uint32_t)b1[i], B1_BYTES);
         memcpy(widened + B1_AT + B1_BYTES, body + B1_AT, length - B1_AT);
     }
     to->length = from->length + B1_BYTES * units;
+}
+
+void to_edition_2(uint64_t *state, const struct case_file *from, struct case_file *to)
+{
+    int32_t b1[SHAHFUREEL_UNITS_MAX];
+    uint32_t units = get_u16(from->bytes + 2);
+    for (uint32_t i = 0; i < units; i++)
+        b1[i] = make_b1(state, get_u16(from->bytes + get_u16(from->bytes + 8 + 4 * i) + B_AT));
+    widen(from, to, b1);
 }
 
 /* Whether dispatch answers the case after the most evaluations. */

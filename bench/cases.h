@@ -23,6 +23,12 @@ struct group {
 /* The next number of a pseudorandom sequence, from least to greatest. */
 uint32_t random_between(uint64_t *state, uint32_t least, uint32_t greatest);
 
+/* Packs a case of edition 1. Ends the process where the rows are refused. */
+void pack_case(struct case_file *c, uint32_t demand, const uint32_t *rows, uint32_t units);
+
+/* The same case in edition 2, with the b1 of each unit. */
+void widen(const struct case_file *from, struct case_file *to, const int32_t *b1);
+
 /* The same case in edition 2, with a b1 for each unit that its b leaves room for. */
 void to_edition_2(uint64_t *state, const struct case_file *from, struct case_file *to);
 

@@ -1,10 +1,11 @@
-/* Times refining against plain C at the largest budget, on sites of equal sets, whose searches are long; and prints how the gap
- * closes with the budget. It first compares the replies of both programs. */
+/* Times refining against plain C, on sites of equal sets at the largest budget and on sites of different sets, where searches are
+ * long; and prints how the gap closes with the budget. It first compares the replies of both programs. */
 #include "refines.h"
 
 #include "agreement.h"
 #include "measure.h"
 #include "plain.h"
+#include "ties.h"
 
 #include <stdio.h>
 #include <stdlib.h>
@@ -12,6 +13,7 @@
 
 enum { SITES = 3, BUDGETS = 6, CASES_REFINED = 16, REPETITIONS_MOST = 5, FILLED = 0xA5 };
 enum { REPLY_ROOM = SHAHFUREEL_REFINE_REPLY_BYTES + 16 };
+enum { TIED_CASES = 20000, DIFFERENT_BUDGET = 1000, DIFFERENT_LEAST = 500 };
 
 static const uint32_t sizes[SITES] = {8, 16, 32};
 static const uint32_t budgets[BUDGETS] = {1, 10, 100, 1000, 10000, SHAHFUREEL_BUDGET_MAX};
@@ -74,9 +76,26 @@ static void compare_case(uint64_t *state, const struct case_file *c)
     compare(c, make_budget(state), random_between(state, SHAHFUREEL_REFINE_REPLY_BYTES - 2, REPLY_ROOM));
 }
 
+/* Sites full of ties: the first nodes one by one, some more, and at times all. */
+static void compare_tied(uint64_t seed, uint32_t edition)
+{
+    static struct case_file c;
+    uint64_t state = seed;
+    for (int i = 0; i < TIED_CASES; i++) {
+        make_tied_case(&state, &c, edition);
+        for (uint32_t budget = 1; budget <= 3; budget++)
+            compare(&c, budget, REPLY_ROOM);
+        compare(&c, random_between(&state, 4, 60), REPLY_ROOM);
+        if (i % 8 == 0)
+            compare(&c, SHAHFUREEL_BUDGET_MAX, REPLY_ROOM);
+    }
+}
+
 static void compare_all(const struct group *largest)
 {
     compare_small_cases(20240610, compare_case);
+    compare_tied(20240611, 1);
+    compare_tied(20240612, 2);
     for (uint32_t i = 0; i < CASES_IN_GROUP; i++) {
         compare(&largest->cases[i], 1 + i % 30, REPLY_ROOM);
         compare(&largest->cases[i], 1000, REPLY_ROOM);
@@ -91,29 +110,58 @@ static void compare_all(const struct group *largest)
 
 /* ---- times */
 
-/* Nanoseconds to a node at the largest budget, and the nodes. */
-static double measure_refine(refine_call *call, const struct case_file *c, uint32_t *evaluated)
+/* Nanoseconds to a node of some cases together, and the mean of their nodes. */
+static double measure_refine(refine_call *call, const struct case_file *cases, uint32_t count, uint32_t budget, uint32_t *mean)
 {
     uint8_t reply[SHAHFUREEL_REFINE_REPLY_BYTES];
+    uint64_t evaluated = 0;
     double start = processor_nanoseconds();
-    call(c->bytes, c->length, SHAHFUREEL_BUDGET_MAX, reply, sizeof reply);
-    *evaluated = shahfureel_refined_nodes(reply);
-    return (processor_nanoseconds() - start) / *evaluated;
+    for (uint32_t i = 0; i < count; i++) {
+        call(cases[i].bytes, cases[i].length, budget, reply, sizeof reply);
+        evaluated += shahfureel_refined_nodes(reply);
+    }
+    *mean = (uint32_t)(evaluated / count);
+    return (processor_nanoseconds() - start) / (double)evaluated;
 }
 
-static void time_site(int repetitions, const struct case_file *c, uint32_t units)
+static void time_cases(int repetitions, const char *what, const struct case_file *cases, uint32_t count, uint32_t budget)
 {
     static double controller[REPETITIONS_MAX], plain[REPETITIONS_MAX], ratio[REPETITIONS_MAX];
-    uint32_t evaluated;
+    uint32_t mean;
     for (int i = 0; i < repetitions; i++) {
-        controller[i] = measure_refine(shahfureel_refine, c, &evaluated);
-        plain[i] = measure_refine(plain_refine, c, &evaluated);
+        controller[i] = measure_refine(shahfureel_refine, cases, count, budget, &mean);
+        plain[i] = measure_refine(plain_refine, cases, count, budget, &mean);
         ratio[i] = controller[i] / plain[i];
     }
     double of_both = median(ratio, repetitions);
-    printf("refine, %u equal units of 4 zones, %u nodes: controller %.0f ns a node, plain C %.0f ns, ratio %.2f, %.2f to %.2f\n",
-           (unsigned)units, (unsigned)evaluated, median(controller, repetitions), median(plain, repetitions), of_both, ratio[0],
-           ratio[repetitions - 1]);
+    printf("refine, %s units of 4 zones, %u nodes: controller %.0f ns a node, plain C %.0f ns, ratio %.2f, %.2f to %.2f\n", what,
+           (unsigned)mean, median(controller, repetitions), median(plain, repetitions), of_both, ratio[0], ratio[repetitions - 1]);
+}
+
+static void time_equal(int repetitions)
+{
+    char what[32];
+    for (int i = 0; i < SITES; i++) {
+        snprintf(what, sizeof what, "%u equal", (unsigned)sizes[i]);
+        time_cases(repetitions, what, &sites[i], 1, SHAHFUREEL_BUDGET_MAX);
+    }
+}
+
+/* The cases of the group whose searches are long. */
+static void time_different(int repetitions, const struct group *g)
+{
+    static struct case_file cases[CASES_IN_GROUP];
+    uint8_t reply[SHAHFUREEL_REFINE_REPLY_BYTES];
+    char what[64];
+    uint32_t count = 0;
+    for (uint32_t i = 0; i < CASES_IN_GROUP; i++) {
+        cases[count] = g->cases[i];
+        shahfureel_refine(cases[count].bytes, cases[count].length, DIFFERENT_BUDGET, reply, sizeof reply);
+        count += shahfureel_refined_nodes(reply) >= DIFFERENT_LEAST;
+    }
+    snprintf(what, sizeof what, "%u cases of %u different", (unsigned)count, (unsigned)g->units);
+    if (count > 0)
+        time_cases(repetitions, what, cases, count, DIFFERENT_BUDGET);
 }
 
 /* ---- gaps */
@@ -184,7 +232,8 @@ void time_refines(int repetitions, const struct group *groups, int count)
     for (int i = 0; i < SITES; i++)
         make_equal_case(&sites[i], sizes[i]);
     compare_all(&groups[count - 1]);
-    for (int i = 0; i < SITES; i++)
-        time_site(repetitions < REPETITIONS_MOST ? repetitions : REPETITIONS_MOST, &sites[i], sizes[i]);
+    int most = repetitions < REPETITIONS_MOST ? repetitions : REPETITIONS_MOST;
+    time_equal(most);
+    time_different(most, &groups[count - 1]);
     print_table(groups, count);
 }
