@@ -1,5 +1,5 @@
-/* Makes sites full of ties. 100,000 * (c1 + c2 * (p + q)) = m * (100,000,000 - b1 - b * (p + q)) is solved for c1, in whole numbers as
- * b1 and b * (p + q) are multiples of 100,000. */
+/* Makes sites full of ties. 100,000 * (c1 + c2 * (p + q)) = m * (100,000,000 - b1 - b * (p + q)) is solved for c1, in whole numbers
+ * as b1 and b * (p + q) are multiples of 100,000. */
 #include "ties.h"
 
 #include <string.h>
@@ -27,7 +27,7 @@ static void make_low_limits(uint64_t *state, struct set *s)
     s->row[SHAHFUREEL_ROW_GREATEST] = at + random_between(state, 1, 3);
 }
 
-/* Just below 10,000 steps, a zone about 9,990; with the greatest b, so that the last steps gain little, and cover at a high price. */
+/* Just below 10,000 steps, a zone about 9,990; with the greatest b, so that the last steps gain little. */
 static void make_high_limits(uint64_t *state, struct set *s)
 {
     uint32_t half = random_between(state, 1, 4);
@@ -44,7 +44,8 @@ static int64_t net_of(const struct set *s, int64_t p)
     return (NET_OF_STEP - s->b1 - s->row[SHAHFUREEL_ROW_B] * p) * p;
 }
 
-/* Costs by which lower and upper tie, and perhaps standing with them; where c1 is cut, standing with the greatest output. */
+/* Costs by which lower and upper tie, and perhaps standing with them; where c1 is cut, standing with the greatest output. Some are
+ * one beside a tie. */
 static void make_costs(uint64_t *state, struct set *s, uint32_t multiplier)
 {
     static const uint32_t curves[4] = {0, 1, 200, 1000};
@@ -54,8 +55,9 @@ static void make_costs(uint64_t *state, struct set *s, uint32_t multiplier)
     int64_t chosen = c1 <= C1_MAX ? s->upper : s->row[SHAHFUREEL_ROW_GREATEST];
     c1 = c1 <= C1_MAX ? c1 : C1_MAX;
     int64_t c0 = multiplier * (net_of(s, chosen) / PRICED_OF_COST) - (c1 + c2 * chosen) * chosen;
-    s->row[SHAHFUREEL_ROW_C0] = random_between(state, 0, 1) && c0 >= 0 && c0 <= C0_MAX ? (uint32_t)c0 : 0;
-    s->row[SHAHFUREEL_ROW_C1] = (uint32_t)c1;
+    c0 = random_between(state, 0, 1) && c0 >= 0 && c0 < C0_MAX ? c0 : 0;
+    s->row[SHAHFUREEL_ROW_C0] = (uint32_t)c0 + (random_between(state, 0, 5) == 0);
+    s->row[SHAHFUREEL_ROW_C1] = (uint32_t)c1 - (c1 > 0 && random_between(state, 0, 5) == 0);
     s->row[SHAHFUREEL_ROW_C2] = (uint32_t)c2;
 }
 
@@ -83,7 +85,7 @@ static int64_t any_output(uint64_t *state, const struct set *s)
 
 void make_tied_case(uint64_t *state, struct case_file *c, uint32_t edition)
 {
-    const uint32_t multipliers[8] = {1, 16, 64, random_between(state, 1, 60), random_between(state, 1, 60), 10000, 65535, 65536};
+    const uint32_t multipliers[8] = {1, 16, 64, random_between(state, 1, 60), random_between(state, 1, 60), 65535, 65536, 65537};
     uint32_t multiplier = multipliers[random_between(state, 0, 7)];
     uint32_t units = random_between(state, 1, SETS_MAX), sorts = random_between(state, 1, 3);
     uint32_t rows[SETS_MAX * SHAHFUREEL_ROW_NUMBERS];

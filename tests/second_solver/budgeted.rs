@@ -3,6 +3,7 @@
 use crate::calls::Refine;
 use crate::generate::capacity;
 use crate::misread;
+use crate::parted;
 use crate::refined::{self, Found, Refined, Rules, Search, GREATEST_BUDGET, PAPER, ROOM};
 use crate::solver::{self, Case, Refused, Unit};
 use crate::tally::{Branches, POSSIBLE_OF_STARTS};
@@ -257,6 +258,7 @@ impl<'a> Seen<'a> {
             let hides = |hidden: &usize| self.gave(first) && self.fault == Some(*hidden as u32);
             reached.extend(POSSIBLE_OF_STARTS.iter().map(hides));
         }
+        reached.extend(parted::reached(self.searched.as_ref().map(|searched| (&searched.case, searched.search))));
         reached
     }
 }
@@ -266,6 +268,7 @@ fn names() -> Vec<String> {
     for first in FIRST {
         names.extend(POSSIBLE_OF_STARTS.iter().map(|hidden| format!("{} before {}", first, hidden)));
     }
+    names.extend(parted::names());
     names
 }
 

@@ -1,11 +1,11 @@
-//! Searches within a budget: units of any kind, with budgets that the search spends and budgets that it does not; budgets and rooms
-//! about their limits; files that are refused.
+//! Searches within a budget: units of any kind, with budgets that the search spends and budgets that it does not; sites full of ties;
+//! budgets and rooms about their limits; files that are refused.
 
 use crate::calls::Refine;
 use crate::damage;
 use crate::demands::damaged_files;
-use crate::generate::{maybe_set_window, share_edges, small_unit, with_demand};
-use crate::outputs::{answered_case, any_case};
+use crate::generate::{capacity, maybe_set_window, near_a_tie, share_edges, small_unit, tying_unit, with_demand, TIED_KINDS};
+use crate::outputs::{answered_case, any_case, case_of};
 use crate::random::Random;
 use crate::refined::{self, GREATEST_BUDGET, PAPER, ROOM};
 use crate::solver::{self, Case, Unit};
@@ -16,11 +16,15 @@ const LONG: usize = 65_536;
 /// How many outputs the solver may have to look at for a search, one unit, multiplier and node after the other.
 const MOST_OUTPUTS: usize = 4_000_000;
 const MULTIPLIERS: usize = 18;
+const LAST: i128 = solver::GREATEST_MULTIPLIER;
+/// How many sites full of ties are made at once, which takes the solver little time.
+const TIED_SITES: usize = 12;
+const STATED_TIES: u64 = 60;
 
 type Kind = fn(&mut Random) -> Vec<Refine>;
 
 /// The kinds of searches; those that are for the nodes themselves are named more than once, to be made more often.
-pub const KINDS: [Kind; 15] = [
+pub const KINDS: [Kind; 21] = [
     any_units,
     any_units,
     any_units,
@@ -32,16 +36,26 @@ pub const KINDS: [Kind; 15] = [
     round_units,
     several_units,
     equal_units,
+    tied_kinds,
+    tied_units,
+    tied_units,
+    met_units,
+    steep_units,
+    steep_units,
     budgets_about_limits,
     rooms_about_limits,
     budgets_beside_faults,
     damaged,
 ];
 
-/// The stated searches, and one that visits as many nodes as a budget may have.
+/// The kinds of sites full of ties.
+const TIES: [Kind; 4] = [tied_kinds, tied_units, met_units, steep_units];
+
+/// The stated searches, one that visits as many nodes as a budget may have, and sites full of ties that are the same in each run.
 pub fn stated() -> Vec<Refine> {
     let rows = vectors::refinements().into_iter().map(|row| Refine { file: row.file, budget: row.budget, room: row.room });
-    rows.chain([refine(&thirty_two_sets(), GREATEST_BUDGET)]).collect()
+    let ties = (0..STATED_TIES).flat_map(|seed| TIES.map(|kind| kind(&mut Random::new(seed)))).flatten();
+    rows.chain([refine(&thirty_two_sets(), GREATEST_BUDGET)]).chain(ties).collect()
 }
 
 /// 32 equal sets that cost so much to run that no multiplier starts them: few evaluations to a node, and more nodes than any budget.
@@ -90,6 +104,53 @@ fn equal_units(random: &mut Random) -> Vec<Refine> {
     let count = random.pick(&[2, 3, 5, 16, 31, 32]);
     let case = with_demand(vec![regional_unit(edition, random); count], edition, random);
     with_budgets(&case, &[1, 2, 20, 260], random)
+}
+
+/// A case of a kind in which outputs tie.
+fn tied_kinds(random: &mut Random) -> Vec<Refine> {
+    let edition = random.pick(&solver::EDITIONS);
+    let calls = random.pick(&TIED_KINDS)(random, edition);
+    let case = case_of(calls, random);
+    first_nodes(&case, random)
+}
+
+/// Sites full of ties, in both editions.
+fn tied_units(random: &mut Random) -> Vec<Refine> {
+    (0..TIED_SITES).flat_map(|_| solver::EDITIONS.map(|edition| tied_site(edition, random))).flatten().collect()
+}
+
+/// Units of which outputs tie at one multiplier, some of them equal or nearly so, at a demand that some of these outputs just meet.
+fn tied_site(edition: i128, random: &mut Random) -> Vec<Refine> {
+    let any = random.between(1, 60);
+    let multiplier = random.pick(&[1, 1, 2, 16, 64, any, any, any, LAST - 1, LAST]);
+    let [one, other] = [0; 2].map(|_| Unit { previous: 0, ..tying_unit(random, edition, multiplier) });
+    let near = [dearer_by_one(&one), cheaper_by_one(&one)];
+    let sorts = [one.clone(), mirrored(&one, multiplier), random.pick(&near), random.pick(&near), other];
+    let units = (0..random.pick(&[2, 2, 3, 3, 4, 5, 6])).map(|_| random.pick(&sorts)).collect();
+    let case = met(Case { edition, demand: 0, units }, multiplier, random);
+    first_nodes(&case, random)
+}
+
+/// Units of any regions, at a demand that their choices at a multiplier near a tie just meet.
+fn met_units(random: &mut Random) -> Vec<Refine> {
+    let case = regional_case(random.pick(&[2, 3, 4]), random);
+    let multiplier = i128::from(near_a_tie(&case, random));
+    let case = met(case, multiplier, random);
+    first_nodes(&case, random)
+}
+
+/// Sites in both editions that come to the last multipliers.
+fn steep_units(random: &mut Random) -> Vec<Refine> {
+    solver::EDITIONS.map(|edition| steep_site(edition, random)).concat()
+}
+
+/// Units whose last steps gain so little that they are given at the last multipliers alone, or just past them, and others.
+fn steep_site(edition: i128, random: &mut Random) -> Vec<Refine> {
+    let multiplier = random.pick(&[LAST - 1, LAST, LAST + 1]);
+    let sorts = [steep_unit(random, edition, multiplier), steep_unit(random, edition, multiplier), regional_unit(edition, random)];
+    let units: Vec<Unit> = (0..random.pick(&[1, 2, 2, 3])).map(|_| random.pick(&sorts)).collect();
+    let case = met(Case { edition, demand: 0, units }, multiplier, random);
+    first_nodes(&case, random)
 }
 
 /// Budgets at their limits and past them, also such that 16 bits would cut.
@@ -184,7 +245,70 @@ fn regional_case(count: usize, random: &mut Random) -> Case {
     with_demand(units, edition, random)
 }
 
+/// A unit whose outputs tie at a multiplier, with a b1 of the other sign: its outputs tie there too, and both together give whole steps.
+fn mirrored(unit: &Unit, multiplier: i128) -> Unit {
+    let c1 = unit.c1 + 2 * multiplier * unit.b1 / solver::COST_SCALE;
+    if !(0..=10_000_000).contains(&c1) {
+        return unit.clone();
+    }
+    Unit { b1: -unit.b1, c1, ..unit.clone() }
+}
+
+fn dearer_by_one(unit: &Unit) -> Unit {
+    Unit { c0: (unit.c0 + 1).min(1_000_000_000), ..unit.clone() }
+}
+
+fn cheaper_by_one(unit: &Unit) -> Unit {
+    Unit { c1: (unit.c1 - 1).max(0), ..unit.clone() }
+}
+
+/// A unit just below 10,000 of which the ends of a zone tie at a multiplier or just before it, with a b1 of either sign in edition
+/// 2. As in `tied_outputs` c1 is found in whole numbers, b1 and b × (p + q) being multiples of 100,000.
+fn steep_unit(random: &mut Random, edition: i128, multiplier: i128) -> Unit {
+    let (b, middle) = random.pick(&[(5_000, 9_990), (4_000, 9_950)]);
+    let half = random.between(1, 4);
+    let b1 = match (edition, b) {
+        (1, _) => 0,
+        (_, 5_000) => -100_000 * random.between(0, 100),
+        _ => 100_000 * random.between(60, 100),
+    };
+    let price = multiplier * ((solver::NET_OF_A_STEP - b1 - 2 * b * middle) / solver::COST_SCALE);
+    let c2 = random.pick(&[0, 1, 200, 1_000]).min(price / (2 * middle));
+    Unit {
+        c0: random.pick(&[0, 0, 1_000_000_000]),
+        c1: (price - 2 * c2 * middle - random.between(0, 1)).clamp(0, 10_000_000),
+        c2,
+        b,
+        b1,
+        least: middle - half - random.between(1, 3),
+        greatest: middle + half + random.between(1, 3),
+        mark: random.pick(&[0, 1, 1]),
+        zones: vec![(middle - half, middle + half)],
+        ..vectors::u()
+    }
+}
+
+/// The case at a demand that some of the outputs that tie at a multiplier meet together, with some of the greatest, or that is a step
+/// above; or at one near capacity, so that not all regions are enough for it.
+fn met(case: Case, multiplier: i128, random: &mut Random) -> Case {
+    let problem = match solver::problem(&case) {
+        Ok(problem) if !random.chance(6) => problem,
+        _ => return Case { demand: (capacity(&case.units) - random.between(0, 3)).max(0), ..case },
+    };
+    let evaluation = problem.evaluate(multiplier);
+    let lists = [&evaluation.choices, &evaluation.choices, &evaluation.least_tied, &problem.greatest];
+    let net: i128 = (0..case.units.len()).map(|unit| random.pick(&lists)[unit].net).sum();
+    Case { demand: (net / solver::NET_OF_A_STEP).clamp(0, 320_000) + random.pick(&[0, 0, 0, 1]), ..case }
+}
+
 // ---- budgets
+
+/// The first nodes one by one, then some more, and at times all.
+fn first_nodes(case: &Case, random: &mut Random) -> Vec<Refine> {
+    let some = random.between(4, 60) as u32;
+    let most = random.pick(&[some, GREATEST_BUDGET]);
+    with_budgets(case, &[1, 2, 3, some, most], random)
+}
 
 /// Budgets about the number of nodes after which the search ends by itself, smaller ones and the greatest.
 fn about_the_end(case: &Case, random: &mut Random) -> Vec<Refine> {

@@ -76,6 +76,19 @@ pub fn accepted_kinds() -> Vec<Kind> {
     ]
 }
 
+/// Kinds of accepted files in which outputs tie, choices just cover or parts of the outputs do not, by edition.
+pub const TIED_KINDS: [fn(&mut Random, i128) -> Vec<Call>; 9] = [
+    equal_units,
+    tied_outputs,
+    lowered_outputs,
+    free_outputs,
+    low_prices,
+    standing_or_running,
+    demand_at_capacity,
+    large_losses,
+    exact_demand,
+];
+
 /// Kinds of calls that are refused, most of them for their file or rows.
 pub fn damaged_kinds() -> Vec<Kind> {
     vec![
@@ -158,7 +171,7 @@ fn any_multiplier(random: &mut Random) -> u32 {
 }
 
 /// A multiplier near the price at which a unit passes from one output to another, in most cases over a zone.
-fn near_a_tie(case: &Case, random: &mut Random) -> u32 {
+pub fn near_a_tie(case: &Case, random: &mut Random) -> u32 {
     let unit = random.pick(&case.units);
     let mut spans = vec![(0, unit.greatest)];
     spans.extend(&unit.zones);
@@ -391,8 +404,8 @@ fn lowered_outputs(random: &mut Random, edition: i128) -> Vec<Call> {
 }
 
 /// A unit without a b of which outputs tie at a multiplier: two neighbours or the edges of a zone, adjacent ones among them; with c2 0
-/// all running outputs; for some units standing too, at 65,536 with the greatest output alone.
-fn tying_unit(random: &mut Random, edition: i128, multiplier: i128) -> Unit {
+/// all running outputs; for some units standing too, where c1 is the greatest with the greatest output alone.
+pub fn tying_unit(random: &mut Random, edition: i128, multiplier: i128) -> Unit {
     let (step, zones) = random.pick(&[(1, 0), (3, 0), (1, 1), (3, 1), (3, 1), (1, 2), (3, 2)]);
     let mut unit = unit(random, edition, 1, step, zones);
     unit.greatest += random.pick(&[0, 0, 3]);
@@ -403,7 +416,7 @@ fn tying_unit(random: &mut Random, edition: i128, multiplier: i128) -> Unit {
     let step_price = multiplier * (solver::NET_OF_A_STEP - unit.b1) / solver::COST_SCALE;
     let c2 = random.pick(&[0, 1, 200, 1_000]).min(step_price / (lower + upper));
     let c1 = (step_price - c2 * (lower + upper)).min(10_000_000);
-    let chosen = if multiplier == solver::GREATEST_MULTIPLIER { unit.greatest } else { upper };
+    let chosen = if c1 == 10_000_000 { unit.greatest } else { upper };
     let running = Unit { c0: 0, c1, c2, b: 0, ..unit };
     let c0_of_tie = step_price * chosen - solver::cost(&running, chosen);
     let c0 = random.pick(&[0, 0, c0_of_tie]).min(1_000_000_000);

@@ -25,6 +25,11 @@ pub fn any_case(random: &mut Random) -> Case {
     } else {
         (random.pick(&accepted_kinds()).make)(random)
     };
+    case_of(calls, random)
+}
+
+/// The case of one of the calls, which dispatches it.
+pub fn case_of(calls: Vec<Call>, random: &mut Random) -> Case {
     let cases: Vec<Case> = calls.into_iter().filter_map(dispatched).collect();
     random.pick(&cases)
 }
