@@ -3,7 +3,7 @@ use Prim.Native.Nat.{ℕ, suc, _+_, _-_, _*_, _^_, _≤_, _<_}
 use native.Mathlib.Nat.{pow-suc, add-zero}
 use native.Mathlib.Decide.{decLt}
 use native.Mathlib.Omega.{arith}
-use mathlib.Core.Path.{_≡_, ap, _∙_}
+use mathlib.Core.Path.{_≡_, refl, ap, _∙_}
 use mathlib.Core.List.{List, [], _∷_}
 use lib.IntN.{ℤ, pos, negsuc, subℕ}
 use lib.ListN.{length, take, drop, length-drop}
@@ -42,7 +42,7 @@ signed-unsigned w (pos n) h k = signed-lower w n h
 signed-unsigned w (negsuc n) h k =
     signed-upper w (256 ^ w - suc n) (omega arith) ∙ same (is-sub (256 ^ w - suc n) (256 ^ w)) (is-negsuc n) (omega arith)
 
-unsigned-fits : (w : ℕ) (z : ℤ) → 2 * positivePart z < 256 ^ w → 2 * negativePart z ≤ 256 ^ w → unsigned w z < 256 ^ w
+pub unsigned-fits : (w : ℕ) (z : ℤ) → 2 * positivePart z < 256 ^ w → 2 * negativePart z ≤ 256 ^ w → unsigned w z < 256 ^ w
 unfolding unsigned positivePart negativePart
 unsigned-fits w (pos n) h k = omega arith
 unsigned-fits w (negsuc n) h k = omega arith
@@ -60,7 +60,7 @@ after-fits n k (x ∷ s) h b =
     let wider : 256 ^ suc k ≡ 256 ^ k * 256 = pow-suc 256 k in
     rw e (after-fits (n * 256 + x) (suc k) s (omega (arith, wider, b 0)) (λ i. b (suc i)))
 
-field-fits : (s : List ℕ) (at w : ℕ) → at + w ≤ length s → Bytes s → field s at w < 256 ^ w
+pub field-fits : (s : List ℕ) (at w : ℕ) → at + w ≤ length s → Bytes s → field s at w < 256 ^ w
 field-fits s at w h b =
     let long : length (take w (drop at s)) ≡ w = length-take-le w (drop at s) (simp length-drop (omega arith)) in
     let e : 0 + length (take w (drop at s)) ≡ w = omega arith in
@@ -69,3 +69,14 @@ field-fits s at w h b =
 -- and writing what was read changes nothing
 pub written-read-signed : (s : List ℕ) (at w : ℕ) → at + w ≤ length s → Bytes s → written s at w (unsigned w (signedField s at w)) ≡ s
 written-read-signed s at w h b = ap (written s at w) (unsigned-signed w (field s at w) (field-fits s at w h b)) ∙ written-read s at w h b
+
+-- the number that stands for a signed one, by its sign
+pub unsigned-lower : (w : ℕ) (z : ℤ) → negativePart z ≡ 0 → unsigned w z ≡ positivePart z
+unfolding unsigned positivePart negativePart
+unsigned-lower w (pos n) h = refl
+unsigned-lower w (negsuc n) h = absurd (omega arith)
+
+pub unsigned-upper : (w : ℕ) (z : ℤ) → 0 < negativePart z → unsigned w z ≡ 256 ^ w - negativePart z
+unfolding unsigned positivePart negativePart
+unsigned-upper w (pos n) h = absurd (omega arith)
+unsigned-upper w (negsuc n) h = refl

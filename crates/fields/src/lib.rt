@@ -3,7 +3,7 @@
 ghost use mathlib.Core.Path.{_≡_};
 ghost use Prim.Native.Nat.{_+_, _≤_, _<_, _^_};
 ghost use lib.ListN.{length};
-ghost use Rattle.fields.specs.Field.{field, signedField, written};
+ghost use Rattle.fields.specs.Field.{field, unsigned, signedField, written};
 
 fn wide(byte: u8) -> u64
     ensures { λ r. ⌜ (r ≡ byte) × (r < 256) ⌝ }
@@ -69,6 +69,16 @@ pub fn read_i32(s: &[u8], at: usize) -> i32
         return n as i32;
     }
     (n as i64 - 4294967296) as i32
+}
+
+// The number of four bytes that stands for a signed one.
+pub fn unsigned_i32(n: i32) -> u64
+    ensures { λ r. ⌜ r ≡ unsigned 4 n ⌝ }
+{
+    if n < 0 {
+        return (n as i64 + 4294967296) as u64;
+    }
+    n as u64
 }
 
 pub fn write_u16(s: &mut [u8], at: usize, n: u16)

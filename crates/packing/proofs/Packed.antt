@@ -1,98 +1,95 @@
--- What packing gives, case by case: refusals 12, 5, per row 7 to 10, 13, and then the file.
-use Prim.Native.Nat.{ℕ, zero, suc, _+_, _*_, _/_, _%_, _≤_, _<_}
-use mathlib.Core.Path.{_≡_, refl, ap, _∙_}
-use mathlib.Core.Bool.{Bool, true, false, not, _||_}
-use mathlib.Core.List.{List, _∷_, map}
-use lib.Dec.{ltb, eqb}
+-- What packing gives, case by case, in either edition: refusals 12, 5, per row 7 to 10 and 18, 13, and then the file.
+use Prim.Native.Nat.{ℕ, _+_, _*_, _/_, _≤_, _<_}
+use native.Mathlib.Omega.{arith}
+use mathlib.Core.Path.{_≡_, ap, _∙_}
+use mathlib.Core.Bool.{true, false}
+use mathlib.Core.List.{List}
+use lib.IntN.{ℤ}
 use lib.ListN.{length}
-use borrow.Author.Tests.{lt-ltb, le-ltb, ltb-false}
+use borrow.Author.Tests.{lt-ltb, le-ltb}
 use Rattle.rules.specs.Lists.{each, over}
-use Rattle.rules.specs.Layout.{unitInRow, unitsOfRows, bodiesLength, fileOf}
+use Rattle.rules.specs.Layout.{inSecond, unitInRow, unitsOfRows, bodiesLength, fileIn}
 use Rattle.rules.specs.Refusal.{inOrder, unitVerdict}
-use Rattle.rules.specs.Calls.{PackResult, packVerdict, packEnds, packed}
+use Rattle.rules.specs.Calls.{PackResult, rowsInvalid, packVerdict, packEnds, packedIn}
 use Rattle.rules.specs.declared.Refusal.{Refusal}
 use Rattle.rules.specs.declared.Refusal.the-variants.{RowsInvalid, DemandOutOfRange, FileBufferTooShort}
 use Rattle.rules.specs.declared.Verdict.{Verdict}
 use Rattle.rules.specs.declared.Verdict.the-variants.{Accepted, Refused}
 use Rattle.rules.specs.declared.Packed.{Packed}
-use Rattle.rules.proofs.Lists.{length-each, each-every}
-use Rattle.rules.proofs.Verdicts.{or-false, in-order-accepted}
+use Rattle.rules.proofs.Lists.{length-each, each-every, map-each}
+use Rattle.rules.proofs.Verdicts.{in-order-accepted, accepts}
 use Rattle.packing.specs.Contracts.{RowsSound}
 use Rattle.packing.proofs.Lengths.{length-rows-file}
 
-module _ {A B : Type 0} (g : A → B) where
-  map-each : (n : ℕ) (f : ℕ → A) → map g (each n f) ≡ each n (λ i. g (f i))
-  map-each zero f = refl
-  map-each (suc n) f = ap (λ (xs : List B). g (f 0) ∷ xs) (map-each n (λ k. f (suc k)))
+pub few-rows : (e l losses : ℕ) → rowsInvalid e l losses ≡ false → (l ≤ 608) × (losses ≡ inSecond e (l / 19))
+few-rows e l losses g = let (((given, some), whole), few) = simp accepts at g in (few, given)
 
--- whether a list of so many numbers is no list of 1 to 32 rows
-abbrev pub notRows : ℕ → Bool
-notRows l = eqb l 0 || not (eqb (l % 19) 0) || ltb 608 l
-
-pub few-rows : (l : ℕ) → notRows l ≡ false → l ≤ 608
-few-rows l e = ltb-false 608 l (or-false (eqb l 0 || not (eqb (l % 19) 0)) (ltb 608 l) .0 e .1)
-
-abbrev pub rowVerdicts : List ℕ → ℕ → Verdict
-rowVerdicts rows n = inOrder (each n (λ i. unitVerdict (unitInRow rows i)))
-
-pub rows-sound : (rows : List ℕ) (n : ℕ) → 19 * n ≤ length rows → n ≤ 32 → rowVerdicts rows n ≡ Accepted → RowsSound rows n
-rows-sound rows n room most e =
-    let verdict : ℕ → Verdict = λ i. unitVerdict (unitInRow rows i) in
-    record {
-      room = room;
-      most = most;
-      accepted = each-every (λ v. v ≡ Accepted) n verdict (in-order-accepted (each n verdict) .0 e);
-    }
+abbrev pub rowVerdicts : List ℕ → List ℤ → ℕ → Verdict
+rowVerdicts rows b1 n = inOrder (each n (λ i. unitVerdict (unitInRow rows b1 i)))
 
 abbrev pub rowCount : List ℕ → ℕ
 rowCount rows = length rows / 19
 
-abbrev pub rowsFileLength : List ℕ → ℕ
-rowsFileLength rows = 8 + 4 * rowCount rows + bodiesLength (each (rowCount rows) (unitInRow rows))
+pub rows-sound : (e : ℕ) (rows : List ℕ) (b1 : List ℤ) → rowsInvalid e (length rows) (length b1) ≡ false → rowVerdicts rows b1 (rowCount rows) ≡ Accepted → RowsSound e rows b1 (rowCount rows)
+rows-sound e rows b1 some accepted =
+    let verdict : ℕ → Verdict = λ i. unitVerdict (unitInRow rows b1 i) in
+    let (few, given) = few-rows e (length rows) (length b1) some in
+    record {
+      room = omega arith;
+      most = omega arith;
+      given = given;
+      accepted = each-every (λ v. v ≡ Accepted) (rowCount rows) verdict (in-order-accepted (each (rowCount rows) verdict) .0 accepted);
+    }
 
-module _ (d : ℕ) (rows file : List ℕ) where
+abbrev pub rowsFileLength : ℕ → List ℕ → List ℤ → ℕ
+rowsFileLength e rows b1 = 8 + 4 * rowCount rows + bodiesLength e (each (rowCount rows) (unitInRow rows b1))
+
+module _ (e d : ℕ) (rows : List ℕ) (b1 : List ℤ) (file : List ℕ) where
   -- the file is written, and the answer is its length
   abbrev pub written : ℕ → PackResult
-  written l = record { answer = Packed.Written l; file = over (fileOf d (each (rowCount rows) (unitInRow rows))) file }
+  written l = record { answer = Packed.Written l; file = over (fileIn e d (each (rowCount rows) (unitInRow rows b1))) file }
 
-  pub packed-rows : notRows (length rows) ≡ true → packed d rows file ≡ record { answer = Packed.Refused RowsInvalid; file = file }
-  unfolding packed packVerdict packEnds
-  packed-rows e = rw e
+  abbrev refused : Refusal → PackResult
+  refused r = record { answer = Packed.Refused r; file = file }
 
-  module _ (some : notRows (length rows) ≡ false) where
-    pub packed-demand : 320000 < d → packed d rows file ≡ record { answer = Packed.Refused DemandOutOfRange; file = file }
-    unfolding packed packVerdict packEnds
+  pub packed-rows : rowsInvalid e (length rows) (length b1) ≡ true → packedIn e d rows b1 file ≡ refused RowsInvalid
+  unfolding packedIn packVerdict packEnds
+  packed-rows g = rw g
+
+  module _ (some : rowsInvalid e (length rows) (length b1) ≡ false) where
+    pub packed-demand : 320000 < d → packedIn e d rows b1 file ≡ refused DemandOutOfRange
+    unfolding packedIn packVerdict packEnds
     packed-demand h = rw (some, lt-ltb 320000 d h)
 
     module _ (small : d ≤ 320000) where
-      pub packed-row : {r : Refusal} → rowVerdicts rows (rowCount rows) ≡ Refused r → packed d rows file ≡ record { answer = Packed.Refused r; file = file }
-      unfolding packed packVerdict packEnds unitsOfRows
-      packed-row e = rw (some, le-ltb 320000 d small, map-each unitVerdict (rowCount rows) (unitInRow rows), e)
+      pub packed-row : {r : Refusal} → rowVerdicts rows b1 (rowCount rows) ≡ Refused r → packedIn e d rows b1 file ≡ refused r
+      unfolding packedIn packVerdict packEnds unitsOfRows
+      packed-row g = rw (some, le-ltb 320000 d small, map-each unitVerdict (rowCount rows) (unitInRow rows b1), g)
 
-      module _ (accepted : rowVerdicts rows (rowCount rows) ≡ Accepted) where
-        pub packed-short : length file < rowsFileLength rows → packed d rows file ≡ record { answer = Packed.Refused FileBufferTooShort; file = file }
-        unfolding packed packVerdict packEnds unitsOfRows
+      module _ (accepted : rowVerdicts rows b1 (rowCount rows) ≡ Accepted) where
+        pub packed-short : length file < rowsFileLength e rows b1 → packedIn e d rows b1 file ≡ refused FileBufferTooShort
+        unfolding packedIn packVerdict packEnds unitsOfRows
         packed-short h =
             rw (
               some,
               le-ltb 320000 d small,
-              map-each unitVerdict (rowCount rows) (unitInRow rows),
+              map-each unitVerdict (rowCount rows) (unitInRow rows b1),
               accepted,
-              length-each (rowCount rows) (unitInRow rows),
-              lt-ltb (length file) (rowsFileLength rows) h,
+              length-each (rowCount rows) (unitInRow rows b1),
+              lt-ltb (length file) (rowsFileLength e rows b1) h,
             )
 
-        whole : rowsFileLength rows ≤ length file → packed d rows file ≡ written (length (fileOf d (each (rowCount rows) (unitInRow rows))))
-        unfolding packed packVerdict packEnds unitsOfRows
+        whole : rowsFileLength e rows b1 ≤ length file → packedIn e d rows b1 file ≡ written (length (fileIn e d (each (rowCount rows) (unitInRow rows b1))))
+        unfolding packedIn packVerdict packEnds unitsOfRows
         whole h =
             rw (
               some,
               le-ltb 320000 d small,
-              map-each unitVerdict (rowCount rows) (unitInRow rows),
+              map-each unitVerdict (rowCount rows) (unitInRow rows b1),
               accepted,
-              length-each (rowCount rows) (unitInRow rows),
-              le-ltb (length file) (rowsFileLength rows) h,
+              length-each (rowCount rows) (unitInRow rows b1),
+              le-ltb (length file) (rowsFileLength e rows b1) h,
             )
 
-        pub packed-written : RowsSound rows (rowCount rows) → rowsFileLength rows ≤ length file → packed d rows file ≡ written (rowsFileLength rows)
-        packed-written sound h = whole h ∙ ap written (length-rows-file sound d)
+        pub packed-written : rowsFileLength e rows b1 ≤ length file → packedIn e d rows b1 file ≡ written (rowsFileLength e rows b1)
+        packed-written h = whole h ∙ ap written (length-rows-file (rows-sound e rows b1 some accepted) d)

@@ -2,16 +2,18 @@
 use Prim.Native.Nat.{ℕ, _*_, _≤_, _<_}
 use mathlib.Core.Path.{_≡_}
 use mathlib.Core.List.{List}
+use lib.IntN.{ℤ}
 use lib.ListN.{length, getD}
-use Rattle.rules.specs.Layout.{unitInRow}
+use Rattle.rules.specs.Layout.{inSecond, unitInRow}
 use Rattle.rules.specs.Refusal.{unitVerdict}
 use Rattle.rules.specs.declared.Verdict.the-variants.{Accepted}
 
--- The first n rows, each of an accepted unit.
-pub record RowsSound (rows : List ℕ) (n : ℕ) : Type 0 where
+-- The first n rows, each of an accepted unit, and in edition 2 a b1 for each.
+pub record RowsSound (e : ℕ) (rows : List ℕ) (b1 : List ℤ) (n : ℕ) : Type 0 where
   pub room : 19 * n ≤ length rows
   pub most : n ≤ 32
-  pub accepted : (i : ℕ) → i < n → unitVerdict (unitInRow rows i) ≡ Accepted
+  pub given : length b1 ≡ inSecond e n
+  pub accepted : (i : ℕ) → i < n → unitVerdict (unitInRow rows b1 i) ≡ Accepted
 
 -- Numbers of 16 bits.
 pub record WordsFit (words : List ℕ) : Type 0 where

@@ -1,7 +1,9 @@
-// Reading a unit from a planner's row.
+// Reading a unit from a planner's row, and its b1 from the list beside the rows.
 ghost use mathlib.Core.Path.{_≡_};
 ghost use Prim.Native.Nat.{_+_, _*_, _≤_};
-ghost use lib.ListN.{length, take, drop};
+ghost use lib.IntN.{pos};
+ghost use lib.ListN.{length, getD, take, drop};
+ghost use Rattle.rules.specs.Unit.{withLoss};
 ghost use Rattle.rules.specs.Layout.{unitOfRow, unitInRow};
 ghost use Rattle.unit.specs.UnitHeld.{unitHeld};
 use unit::Unit;
@@ -20,10 +22,10 @@ fn row_edges(row: &[u32]) -> [u32; 8]
     edges
 }
 
-// The numbers of one row, which has no b1.
-fn row_numbers(row: &[u32]) -> Unit
+// The numbers of one row, and a b1, which no row has.
+fn row_numbers(row: &[u32], b1: i32) -> Unit
     requires { ⌜ length (now row) ≡ 19 ⌝ }
-    ensures { λ r. ⌜ unitHeld r ≡ unitOfRow (now (row .entry)) ⌝ }
+    ensures { λ r. ⌜ unitHeld r ≡ withLoss (unitOfRow (now (row .entry))) b1 ⌝ }
 {
     let edges = row_edges(row);
     Unit {
@@ -31,7 +33,7 @@ fn row_numbers(row: &[u32]) -> Unit
         c1: row[1],
         c2: row[2],
         b: row[3],
-        b1: 0,
+        b1,
         least: row[4],
         greatest: row[5],
         previous: row[6],
@@ -43,12 +45,22 @@ fn row_numbers(row: &[u32]) -> Unit
     }
 }
 
-// Row `i`.
-pub fn read_row(rows: &[u32], i: usize) -> Unit
+// The b1 of row `i`, 0 where the list is empty.
+fn linear_loss(b1: &[i32], i: usize) -> i32
+    ensures { λ r. ⌜ r ≡ getD (now (b1 .entry)) i (pos 0) ⌝ }
+{
+    if i < b1.len() {
+        return b1[i];
+    }
+    0
+}
+
+// Row `i`, with its b1.
+pub fn read_row(rows: &[u32], b1: &[i32], i: usize) -> Unit
     requires { ⌜ 19 * i + 19 ≤ length (now rows) ⌝ }
-    ensures { λ r. ⌜ unitHeld r ≡ unitInRow (now (rows .entry)) i ⌝ }
+    ensures { λ r. ⌜ unitHeld r ≡ unitInRow (now (rows .entry)) (now (b1 .entry)) i ⌝ }
 {
     let at = 19 * i;
     let end = at + 19;
-    row_numbers(&rows[at..end])
+    row_numbers(&rows[at..end], linear_loss(b1, i))
 }

@@ -10,7 +10,7 @@ use Rattle.rules.specs.Lists.{over}
 use Rattle.rules.specs.Refusal.{numberOf}
 use Rattle.branching.specs.Refining.{refined, panelRefined}
 use Rattle.branching.proofs.Claims.{refined-length}
-use Rattle.rules.specs.Calls.{DispatchResult, PackResult, dispatched, priceVerdict, priceEnds, priced, packed, unpackVerdict, unpackEnds, unpacked, numberOfDispatched, numberOfPacked, numberOfPriced, answersOfPriced, numberOfUnpacked, answersOfUnpacked, panelDispatched, panelPacked, panelPriced, panelUnpacked}
+use Rattle.rules.specs.Calls.{DispatchResult, PackResult, dispatched, priceVerdict, priceEnds, priced, packedIn, unpackVerdict, unpackEnds, unpacked, numberOfDispatched, numberOfPacked, numberOfPriced, answersOfPriced, numberOfUnpacked, answersOfUnpacked, panelDispatched, toldPacked, panelPriced, panelUnpacked}
 use Rattle.rules.specs.declared.Refusal.the-variants.{BufferTooShort, MultiplierOutOfRange}
 use Rattle.rules.specs.declared.Dispatched.{Dispatched}
 use Rattle.rules.specs.declared.Packed.{Packed}
@@ -18,6 +18,7 @@ use Rattle.rules.specs.declared.Priced.{Priced}
 use Rattle.rules.specs.declared.Unpacked.{Unpacked}
 use Rattle.judging.specs.Judging.{judgeVerdict, judgeEnds, judged, numberOfJudged, answersOfJudged, panelJudged}
 use Rattle.judging.specs.declared.Judged.{Judged}
+use Rattle.rules.proofs.Encoding.Body.{edges-start}
 use Rattle.rules.proofs.Lengths.{replied-length, packed-length}
 
 -- two numbers written to the start of a list
@@ -42,12 +43,12 @@ refine-told file budget reply e f = rw (e, f)
 pub refined-small : (file : List ℕ) (budget : ℕ) (reply : List ℕ) {a : Dispatched} {s : List ℕ} {n : ℕ} → refined file budget reply ≡ record { answer = a; reply = s } → a ≡ Dispatched.Replied n → n ≤ 94
 refined-small file budget reply {n = n} e f = refined-length file budget reply n (ap (λ (r : DispatchResult). r .answer) e ∙ f) .1
 
-pub pack-told : (d : ℕ) (rows file : List ℕ) {a b : Packed} {s : List ℕ} {n : ℕ} → packed d rows file ≡ record { answer = a; file = s } → a ≡ b → n ≡ numberOfPacked b → panelPacked d rows file ≡ record { number = n; file = s }
-unfolding panelPacked
-pack-told d rows file e f g = rw (e, f, g)
+-- of either edition
+pub pack-told : (r : PackResult) {a : Packed} {s : List ℕ} {n : ℕ} → r ≡ record { answer = a; file = s } → n ≡ numberOfPacked a → toldPacked r ≡ record { number = n; file = s }
+pack-told r e f = rw (e, f)
 
-pub packed-small : (d : ℕ) (rows file : List ℕ) {a : Packed} {s : List ℕ} {n : ℕ} → packed d rows file ≡ record { answer = a; file = s } → a ≡ Packed.Written n → n ≤ 1480
-packed-small d rows file {n = n} e f = packed-length d rows file n (ap (λ (r : PackResult). r .answer) e ∙ f) .1
+pub packed-small : (e d : ℕ) (rows : List ℕ) (b1 : List ℤ) (file : List ℕ) {a : Packed} {s : List ℕ} {n : ℕ} → packedIn e d rows b1 file ≡ record { answer = a; file = s } → a ≡ Packed.Written n → n ≤ 1608
+packed-small e d rows b1 file {n = n} g f = omega (arith, packed-length e d rows b1 file n (ap (λ (r : PackResult). r .answer) g ∙ f) .1, edges-start e)
 
 -- ---- pricing
 

@@ -9,7 +9,7 @@ ghost use lib.IntN.{pos};
 ghost use lib.ListN.{length};
 ghost use Rattle.answering.specs.Answers.{panelStarted, panelAdvanced, panelAsked};
 ghost use Rattle.branching.specs.Refining.{panelRefined};
-ghost use Rattle.rules.specs.Calls.{numberOfDispatched, panelDispatched, panelPriced, panelPacked, panelUnpacked};
+ghost use Rattle.rules.specs.Calls.{numberOfDispatched, numberOfPacked, panelDispatched, panelPriced, panelPacked, panelPacked2, panelUnpacked};
 ghost use Rattle.rules.specs.Lists.{over};
 ghost use Rattle.modbus.specs.View.{panelViewed};
 ghost use Rattle.judging.specs.Judging.{panelJudged};
@@ -84,15 +84,31 @@ pub extern "C" fn shahfureel_price(file: &[u8], m: u32, answers: &mut [i64]) -> 
     }
 }
 
+// A packed file's length, or the number of the refusal.
+fn file_number_of(answer: Packed) -> u32
+    requires { ⌜ ((n : ℕ) → answer ≡ Packed.Written n → n ≤ 1608) ⌝ }
+    ensures { λ n. ⌜ n ≡ numberOfPacked answer ⌝ }
+{
+    match answer {
+        Packed::Written(length) => length as u32,
+        Packed::Refused(r) => refusal_number::number(r),
+    }
+}
+
 #[no_mangle]
 pub extern "C" fn shahfureel_pack(demand: u32, rows: &[u32], file: &mut [u8]) -> u32
     ensures { λ n. ⌜ panelPacked demand (now (rows .entry)) (now (file .entry)) ≡ record { number = n; file = now (file .exit) } ⌝ }
 {
     let answer = packing::pack(demand, rows, file);
-    match answer {
-        Packed::Written(length) => length as u32,
-        Packed::Refused(r) => refusal_number::number(r),
-    }
+    file_number_of(answer)
+}
+
+#[no_mangle]
+pub extern "C" fn shahfureel_pack2(demand: u32, rows: &[u32], b1: &[i32], file: &mut [u8]) -> u32
+    ensures { λ n. ⌜ panelPacked2 demand (now (rows .entry)) (now (b1 .entry)) (now (file .entry)) ≡ record { number = n; file = now (file .exit) } ⌝ }
+{
+    let answer = packing::pack2(demand, rows, b1, file);
+    file_number_of(answer)
 }
 
 #[no_mangle]

@@ -1,13 +1,15 @@
--- (rule 14.2) Lengths are 30 or more and numbers are less: a C caller can tell the two apart. And no length is above 92, or 1,480 of a file.
+-- (rule 14.2) Lengths are 30 or more and numbers are less: a C caller can tell the two apart. And no length is above 92, or of a file 1,480, in edition 2 1,608.
 use mathlib.Core.Path.{_≡_}
 use mathlib.Core.List.{List, [], _∷_}
-use Prim.Native.Nat.{ℕ, _*_, _≤_, _<_}
+use Prim.Native.Nat.{ℕ, _+_, _*_, _≤_, _<_}
+use native.Mathlib.Nat.{le-refl, mul-le-mul}
 use native.Mathlib.Omega.{arith}
+use lib.IntN.{ℤ}
 use lib.ListN.{length}
 use Rattle.rules.specs.Unit.{Unit}
-use Rattle.rules.specs.Layout.{bodiesLength, unitsOfRows}
+use Rattle.rules.specs.Layout.{edgesStart, bodiesLength, unitsOfRows}
 use Rattle.rules.specs.Refusal.{numberOf}
-use Rattle.rules.specs.Calls.{dispatched, packVerdict, packed}
+use Rattle.rules.specs.Calls.{dispatched, packVerdict, packedIn}
 use Rattle.rules.specs.declared.Refusal.{Refusal}
 use Rattle.rules.specs.declared.Refusal.the-variants.{
   BufferTooShort,
@@ -42,7 +44,7 @@ use Rattle.rules.specs.declared.Refusal.the-variants.{
 use Rattle.rules.specs.declared.Dispatched.{Dispatched}
 use Rattle.rules.specs.declared.Packed.{Packed}
 use Rattle.rules.specs.Lists.{Every}
-use Rattle.rules.proofs.Encoding.Body.{Packable}
+use Rattle.rules.proofs.Encoding.Body.{Packable, edges-start}
 use Rattle.rules.proofs.Encoding.RoundTrip.{length-file}
 use Rattle.rules.proofs.Encoding.Undo.{sound-rows, pack-wrote}
 use Rattle.rules.proofs.Replied.{counted, replied}
@@ -85,13 +87,17 @@ replied-length file reply n e =
     let c = counted file (r .accepted) in
     omega (arith, r .long, c .long, c .some, c .few)
 
-bodies-length : (us : List Unit) → Every Packable us → (26 * length us ≤ bodiesLength us) × (bodiesLength us ≤ 42 * length us)
-bodies-length [] p = omega arith
-bodies-length (u ∷ us) p = omega (arith, bodies-length us (p .1), p .0 .sound .zoneCount)
+bodies-length : (e : ℕ) (us : List Unit) → Every (Packable e) us → (edgesStart e * length us ≤ bodiesLength e us) × (bodiesLength e us ≤ (edgesStart e + 16) * length us)
+bodies-length e [] p = omega arith
+bodies-length e (u ∷ us) p = omega (arith, bodies-length e us (p .1), p .0 .sound .zoneCount)
 
-pub packed-length : (d : ℕ) (rows buffer : List ℕ) (n : ℕ) → packed d rows buffer .answer ≡ Packed.Written n → (30 ≤ n) × (n ≤ 1480)
-unfolding packed
-packed-length d rows buffer n e =
-    let (accepted, long) = pack-wrote (packVerdict d rows buffer) d rows buffer n e in
-    let s = sound-rows d rows buffer accepted in
-    omega (arith, long, length-file d (unitsOfRows rows) (s .units), s .some, s .few, bodies-length (unitsOfRows rows) (s .units))
+-- 1,480 in edition 1, 1,608 in edition 2
+pub packed-length : (e d : ℕ) (rows : List ℕ) (b1 : List ℤ) (buffer : List ℕ) (n : ℕ) → packedIn e d rows b1 buffer .answer ≡ Packed.Written n → (30 ≤ n) × (n ≤ 136 + (edgesStart e + 16) * 32)
+unfolding packedIn
+packed-length e d rows b1 buffer n a =
+    let (accepted, long) = pack-wrote (packVerdict e d rows b1 buffer) e d rows b1 buffer n a in
+    let s = sound-rows e d rows b1 buffer accepted in
+    let us = unitsOfRows rows b1 in
+    let least : edgesStart e * 1 ≤ edgesStart e * length us = mul-le-mul (le-refl (edgesStart e)) (s .some) in
+    let most : (edgesStart e + 16) * length us ≤ (edgesStart e + 16) * 32 = mul-le-mul (le-refl (edgesStart e + 16)) (s .few) in
+    omega (arith, long, length-file e d us (s .units), s .some, s .few, bodies-length e us (s .units), least, most, edges-start e)

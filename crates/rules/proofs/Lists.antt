@@ -99,6 +99,11 @@ every-map P f (x ∷ xs) =
     let rest = every-map P f xs in
     (λ p. (p .0, rest .0 (p .1)), λ p. (p .0, rest .1 (p .1)))
 
+module _ {A B : Type 0} (g : A → B) where
+  pub map-each : (n : ℕ) (f : ℕ → A) → map g (each n f) ≡ each n (λ i. g (f i))
+  map-each zero f = refl
+  map-each (suc n) f = ap (λ (xs : List B). g (f 0) ∷ xs) (map-each n (λ k. f (suc k)))
+
 -- ---- pairwise: a relation between the elements of two lists, as many in each
 
 module _ {A B : Type 0} where

@@ -11,10 +11,10 @@ use lib.Signed.{_<ℤ_}
 use Rattle.fields.specs.Integers.{positivePart, negativePart}
 use Rattle.fields.proofs.Integers.{itself, is-pos, is-add, under, ≤-in, ≤-out, <-out}
 use Rattle.rules.specs.Lists.{each, all, Every}
-use Rattle.rules.specs.Unit.{Unit}
-use Rattle.rules.specs.Layout.{unitOfBody, bodyLength, edition, count, demand, body, unitOfRow, unitsOfRows, unitInRow}
+use Rattle.rules.specs.Unit.{Unit, withLoss}
+use Rattle.rules.specs.Layout.{unitOfBody, bodyLength, edition, count, demand, body, unitsOfRows, unitInRow}
 use Rattle.rules.specs.Refusal.{numberOf, numberOfVerdict, _refuses_, _then_, inOrder, zoneCountInvalid, coefficientOutOfRange, lossesOutOfRange, limitsInvalid, rampOrMarkOutOfRange, editionVerdict, headVerdict, start, entryFits, contentsVerdict, unitVerdict, bodyVerdict, fileVerdict}
-use Rattle.rules.specs.Calls.{fileLength, packVerdict, packEnds, packed}
+use Rattle.rules.specs.Calls.{fileLength, packVerdict, packEnds, packedIn, packed}
 use Rattle.rules.specs.Losses.{LinearLossInRange, NetRises, RefusedExactlyWhereNetDoesNotRise, PackingNeverMeets18, Edition1NeverMeets18}
 use Rattle.rules.specs.declared.Refusal.{Refusal}
 use Rattle.rules.specs.declared.Refusal.the-variants.{FileTooShort, EditionUnknown, CountOutOfRange, DemandOutOfRange, ContentsInvalid, ZoneCountInvalid, CoefficientOutOfRange, LimitsInvalid, RampOrMarkOutOfRange, RowsInvalid, FileBufferTooShort, LossesOutOfRange}
@@ -88,23 +88,23 @@ module _ (u : Unit) (none : u .b1 ≡ pos 0) where
       by false false false m r h e =
           then-never (m refuses LimitsInvalid) (r refuses RampOrMarkOutOfRange) (refuses-never m LimitsInvalid (λ k. omega arith)) (refuses-never r RampOrMarkOutOfRange (λ k. omega arith)) e
 
-row-never : (rows : List ℕ) (i : ℕ) → Never18 (unitVerdict (unitInRow rows i))
-unfolding unitOfRow
-row-never rows i = no-loss-never (unitInRow rows i) refl
+row-never : (rows : List ℕ) (i : ℕ) → Never18 (unitVerdict (unitInRow rows [] i))
+unfolding withLoss
+row-never rows i = no-loss-never (unitInRow rows [] i) refl
 
-rows-never : (d : ℕ) (rows file : List ℕ) → Never18 (packVerdict d rows file)
+rows-never : (d : ℕ) (rows file : List ℕ) → Never18 (packVerdict 1 d rows [] file)
 unfolding packVerdict unitsOfRows
 rows-never d rows file =
     next-never (eqb (length rows) 0 || not (eqb (length rows % 19) 0) || ltb 608 (length rows)) RowsInvalid _ (λ k. omega arith)
     (next-never (ltb 320000 d) DemandOutOfRange _ (λ k. omega arith)
-    (then-never (inOrder (map unitVerdict (unitsOfRows rows))) _ (in-order-never (map unitVerdict (unitsOfRows rows)) (every-map Never18 unitVerdict (unitsOfRows rows) .1 (every-each (λ u. Never18 (unitVerdict u)) (length rows / 19) (unitInRow rows) (λ i h. row-never rows i))))
-    (refuses-never (ltb (length file) (fileLength (unitsOfRows rows))) FileBufferTooShort (λ k. omega arith))))
+    (then-never (inOrder (map unitVerdict (unitsOfRows rows []))) _ (in-order-never (map unitVerdict (unitsOfRows rows [])) (every-map Never18 unitVerdict (unitsOfRows rows []) .1 (every-each (λ u. Never18 (unitVerdict u)) (length rows / 19) (unitInRow rows []) (λ i h. row-never rows i))))
+    (refuses-never (ltb (length file) (fileLength 1 (unitsOfRows rows []))) FileBufferTooShort (λ k. omega arith))))
 
 pub packing-never : PackingNeverMeets18
-unfolding packed packEnds
-packing-never d rows file = by (packVerdict d rows file) (rows-never d rows file)
+unfolding packedIn packEnds
+packing-never d rows file = by (packVerdict 1 d rows [] file) (rows-never d rows file)
   where
-    by : (v : Verdict) → Never18 v → packEnds v d rows file .answer ≡ Packed.Refused LossesOutOfRange → ⊥
+    by : (v : Verdict) → Never18 v → packEnds v 1 d rows [] file .answer ≡ Packed.Refused LossesOutOfRange → ⊥
     by Accepted h e = absurd (let z : _≡_ {A = ℕ} 0 1 = cc in omega arith)
     by (Refused r) h e = h (let same : r ≡ LossesOutOfRange = cc in ap numberOf same)
 

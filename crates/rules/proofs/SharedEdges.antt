@@ -16,7 +16,7 @@ use Rattle.rules.specs.Refusal.{_refuses_, _then_, inOrder, editionVerdi
 use Rattle.rules.specs.Regions.{Region, intervals, windowed, leftOf, regions}
 use Rattle.rules.specs.Problem.{problemIn}
 use Rattle.rules.specs.Bisection.{solvable}
-use Rattle.rules.specs.Calls.{caseVerdict, dispatchVerdict, dispatchEnds, dispatched, priceVerdict, priceEnds, priced, fileLength, packVerdict, packEnds, packed, unpackVerdict, unpackEnds, unpacked}
+use Rattle.rules.specs.Calls.{caseVerdict, dispatchVerdict, dispatchEnds, dispatched, priceVerdict, priceEnds, priced, fileLength, packVerdict, packEnds, packedIn, packed, unpackVerdict, unpackEnds, unpacked}
 use Rattle.rules.specs.SharedEdges.{InOrder, NineExactlyOutOfOrder, CallsAsBefore, zonesRise, limitsInvalidBefore, unitVerdictBy, unitVerdictBefore, bodyVerdictBefore, fileVerdictBefore, dispatchedBefore, pricedBefore, unpackedBefore, packVerdictBefore, packedBefore, sharesEdge, NoSharedEdge, SameWithoutSharedEdge, AcceptedStays, SharedPoint, SharedEdgePermitted}
 use Rattle.rules.specs.declared.Refusal.the-variants.{
   BufferTooShort,
@@ -263,17 +263,17 @@ units-accepted (u ∷ us) e =
     then-accepted (unitVerdict u) (inOrder (map unitVerdict us)) .1 (stays-accepted u (both .0), units-accepted us (both .1))
 
 rows-accepted : (d : ℕ) (rows file : List ℕ) → packVerdictBefore d rows file ≡ Accepted → packed d rows file ≡ packedBefore d rows file
-unfolding packed packVerdict
+unfolding packedIn packVerdict
 rows-accepted d rows file e =
-    let us = unitsOfRows rows in
+    let us = unitsOfRows rows [] in
     let form = (eqb (length rows) 0 || not (eqb (length rows % 19) 0) || ltb 608 (length rows)) refuses RowsInvalid in
     let demand = ltb 320000 d refuses DemandOutOfRange in
-    let room = ltb (length file) (fileLength us) refuses FileBufferTooShort in
+    let room = ltb (length file) (fileLength 1 us) refuses FileBufferTooShort in
     let units = inOrder (map unitVerdictBefore us) in
     let first = then-accepted form (demand then units then room) .0 e in
     let second = then-accepted demand (units then room) .0 (first .1) in
     let third = then-accepted units room .0 (second .1) .0 in
-    ap (λ (v : Verdict). packEnds (form then demand then v then room) d rows file) (units-accepted us third ∙ sym third)
+    ap (λ (v : Verdict). packEnds (form then demand then v then room) 1 d rows [] file) (units-accepted us third ∙ sym third)
 
 pub same-without-shared-edge : SameWithoutSharedEdge
 same-without-shared-edge = record { units = same-limits; files = λ file n. calls-as-before file (file-without file n) }

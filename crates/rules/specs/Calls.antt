@@ -1,7 +1,7 @@
 -- Rules 12.1 to 14.4 of docs/SPECIFICATION.md, and the order of checks of each call (rule 4.3): for each public call, on every input, its answer and the final contents of every buffer that it was lent.
 -- A refusal leaves each buffer as it was; otherwise the call's output stands at the buffer's start, and the rest is untouched.
-use Prim.Native.Nat.{ℕ, _+_, _*_, _%_}
-use mathlib.Core.Bool.{cond, not, _||_}
+use Prim.Native.Nat.{ℕ, _+_, _*_, _/_, _%_}
+use mathlib.Core.Bool.{Bool, cond, not, _||_}
 use mathlib.Core.List.{List, [], _∷_, _++_, map}
 use lib.Dec.{ltb, eqb}
 use lib.IntN.{ℤ, pos}
@@ -9,7 +9,7 @@ use lib.ListN.{length}
 use Rattle.fields.specs.Field.{bytes, bytesOfEach}
 use Rattle.rules.specs.Lists.{over}
 use Rattle.rules.specs.Unit.{Unit}
-use Rattle.rules.specs.Layout.{caseOf, unitsOfRows, rowsOfUnits, bodiesLength, fileOf}
+use Rattle.rules.specs.Layout.{caseOf, inSecond, unitsOfRows, rowsOfUnits, bodiesLength, fileIn}
 use Rattle.rules.specs.Refusal.{numberOf, _refuses_, _then_, inOrder, editionVerdict, fileVerdict, unitVerdict}
 use Rattle.rules.specs.Problem.{problemIn, unitsOf, totalNet, covers}
 use Rattle.rules.specs.Choice.{choices, dualValue}
@@ -71,31 +71,41 @@ priceEnds Verdict.Accepted file m =
 unfoldable pub priced : List ℕ → ℕ → Priced
 priced file m = priceEnds (priceVerdict file m) file m
 
--- ---- packing (rule 13.4): a demand and rows become a file
+-- ---- packing (rule 13.4): a demand, rows and, in edition 2, a b1 for each of them become a file of edition e
 
 pub record PackResult : Type 0 where
   pub answer : Packed
   pub file : List ℕ
 
--- the length of `fileOf` for some units: head, contents, bodies (`RoundTrip.length-file`)
-abbrev pub fileLength : List Unit → ℕ
-fileLength us = 8 + 4 * length us + bodiesLength us
+-- the length of `fileIn` for some units: head, contents, bodies (`RoundTrip.length-file`)
+abbrev pub fileLength : ℕ → List Unit → ℕ
+fileLength e us = 8 + 4 * length us + bodiesLength e us
 
-unfoldable pub packVerdict : ℕ → List ℕ → List ℕ → Verdict
-packVerdict d rows file =
-    (eqb (length rows) 0 || not (eqb (length rows % 19) 0) || ltb 608 (length rows)) refuses RowsInvalid
+-- by the lengths of the two lists: not one b1 for each row in edition 2, or one in edition 1; or no list of 1 to 32 rows
+abbrev pub rowsInvalid : ℕ → ℕ → ℕ → Bool
+rowsInvalid e l losses = not (eqb losses (inSecond e (l / 19))) || eqb l 0 || not (eqb (l % 19) 0) || ltb 608 l
+
+unfoldable pub packVerdict : ℕ → ℕ → List ℕ → List ℤ → List ℕ → Verdict
+packVerdict e d rows b1 file =
+    rowsInvalid e (length rows) (length b1) refuses RowsInvalid
     then ltb 320000 d refuses DemandOutOfRange
-    then inOrder (map unitVerdict (unitsOfRows rows))
-    then ltb (length file) (fileLength (unitsOfRows rows)) refuses FileBufferTooShort
+    then inOrder (map unitVerdict (unitsOfRows rows b1))
+    then ltb (length file) (fileLength e (unitsOfRows rows b1)) refuses FileBufferTooShort
 
-unfoldable pub packEnds : Verdict → ℕ → List ℕ → List ℕ → PackResult
-packEnds (Verdict.Refused r) d rows file = record { answer = Packed.Refused r; file = file }
-packEnds Verdict.Accepted d rows file =
-    let out = fileOf d (unitsOfRows rows) in
+unfoldable pub packEnds : Verdict → ℕ → ℕ → List ℕ → List ℤ → List ℕ → PackResult
+packEnds (Verdict.Refused r) e d rows b1 file = record { answer = Packed.Refused r; file = file }
+packEnds Verdict.Accepted e d rows b1 file =
+    let out = fileIn e d (unitsOfRows rows b1) in
     record { answer = Packed.Written (length out); file = over out file }
 
-unfoldable pub packed : ℕ → List ℕ → List ℕ → PackResult
-packed d rows file = packEnds (packVerdict d rows file) d rows file
+unfoldable pub packedIn : ℕ → ℕ → List ℕ → List ℤ → List ℕ → PackResult
+packedIn e d rows b1 file = packEnds (packVerdict e d rows b1 file) e d rows b1 file
+
+abbrev pub packed : ℕ → List ℕ → List ℕ → PackResult
+packed d rows file = packedIn 1 d rows [] file
+
+abbrev pub packed2 : ℕ → List ℕ → List ℤ → List ℕ → PackResult
+packed2 d rows b1 file = packedIn 2 d rows b1 file
 
 -- ---- unpacking (rules 4.9, 13.5): a file of edition 1 becomes rows, a demand and a count
 
@@ -153,8 +163,14 @@ pub record PanelPackResult : Type 0 where
   pub number : ℕ
   pub file : List ℕ
 
+abbrev pub toldPacked : PackResult → PanelPackResult
+toldPacked r = record { number = numberOfPacked (r .answer); file = r .file }
+
 unfoldable pub panelPacked : ℕ → List ℕ → List ℕ → PanelPackResult
-panelPacked d rows file = let r = packed d rows file in record { number = numberOfPacked (r .answer); file = r .file }
+panelPacked d rows file = toldPacked (packed d rows file)
+
+unfoldable pub panelPacked2 : ℕ → List ℕ → List ℤ → List ℕ → PanelPackResult
+panelPacked2 d rows b1 file = toldPacked (packed2 d rows b1 file)
 
 -- (14 comes first in `priceVerdict` too; here the list's own check stands between it and the head.)
 pub record PanelPriceResult : Type 0 where

@@ -4,17 +4,17 @@ use mathlib.Core.Bool.{Bool}
 use mathlib.Core.List.{List, [], _∷_}
 use lib.IntN.{ℤ}
 use lib.ListN.{length, replicate}
-use Rattle.fields.specs.Field.{numberAfter, signed, bytes, bytesOfEach}
+use Rattle.fields.specs.Field.{numberAfter, signed, unsigned, bytes, bytesOfEach}
 use Rattle.rules.specs.Lists.{over}
 use Rattle.rules.specs.Numbers.{total, dividedUp, greatestAt, natural}
-use Rattle.rules.specs.Unit.{Unit, zones, permitted, cost, linearFactor, net}
-use Rattle.rules.specs.Layout.{edgeOfBody, unitOfBody, bodyOfUnit, caseOf, contentsFrom, bodiesOf, fileOf, unitOfRow, rowOfUnit, unitsOfRows, rowsOfUnits}
+use Rattle.rules.specs.Unit.{Unit, withLoss, zones, permitted, cost, linearFactor, net}
+use Rattle.rules.specs.Layout.{edgeOfBody, unitOfBody, bodyOfUnit, caseOf, contentsFrom, bodiesOf, fileIn, unitOfRow, rowOfUnit, unitsOfRows, rowsOfUnits}
 use Rattle.rules.specs.Refusal.{editionVerdict, headVerdict, contentsVerdict, zonesAscend, unitVerdict, bodyVerdict, fileVerdict, numberOf, numberOfVerdict}
 use Rattle.rules.specs.Regions.{Region, intervals, regions}
 use Rattle.rules.specs.Problem.{allocation, totalCost, totalNet, Offer, offer, problemOf}
 use Rattle.rules.specs.Choice.{pricedCost, preferredFrom, preferred, choices, lowered, selected, dualValue, floor}
 use Rattle.rules.specs.Bisection.{Found, Reply, step4, step3, search, greatestOutputs, solvable, found, replyOf, solve}
-use Rattle.rules.specs.Calls.{replyBytes, caseVerdict, dispatchVerdict, dispatchEnds, dispatched, priceVerdict, priceEnds, priced, packVerdict, packEnds, packed, unpackVerdict, unpackEnds, unpacked, panelDispatched, panelPriced, panelPacked, panelUnpacked}
+use Rattle.rules.specs.Calls.{replyBytes, caseVerdict, dispatchVerdict, dispatchEnds, dispatched, priceVerdict, priceEnds, priced, packVerdict, packEnds, packedIn, packed, packed2, unpackVerdict, unpackEnds, unpacked, panelDispatched, panelPriced, panelPacked, panelPacked2, panelUnpacked}
 use Rattle.rules.specs.declared.Dispatched.{Dispatched}
 use Rattle.rules.specs.declared.Packed.{Packed}
 use Rattle.rules.specs.declared.Priced.{Priced}
@@ -30,11 +30,13 @@ pub data Call : Type 0 where
   -- the lent buffer comes last
   dispatchInto : List ℕ → List ℕ → Call
   packInto : ℕ → List ℕ → List ℕ → Call
+  pack2Into : ℕ → List ℕ → List ℤ → List ℕ → Call
   unpackInto : List ℕ → List ℕ → Call
   -- the calls as C sees them
   panelDispatch : List ℕ → List ℕ → Call
   panelPrice : List ℕ → ℕ → List ℤ → Call
   panelPack : ℕ → List ℕ → List ℕ → Call
+  panelPack2 : ℕ → List ℕ → List ℤ → List ℕ → Call
   panelUnpack : List ℕ → List ℕ → List ℤ → Call
   -- parts of the rules by themselves: whether outputs are an allocation of units
   allocate : List Unit → List ℕ → Call
@@ -93,17 +95,19 @@ endsOf (r ∷ rs) = r .low ∷ r .high ∷ endsOf rs
 
 -- what the rules give. Its line names every definition of the rules that an answer needs: to unfold `answer` is to unfold them all, and so a closed case computes, also in the tables of other crates.
 unfoldable pub answer : Call → Answer
-unfolding numberAfter signed bytes bytesOfEach zones edgeOfBody unitOfBody bodyOfUnit caseOf contentsFrom bodiesOf fileOf editionVerdict headVerdict contentsVerdict zonesAscend unitVerdict bodyVerdict fileVerdict permitted cost linearFactor net totalCost totalNet offer problemOf pricedCost preferredFrom preferred total choices lowered selected dualValue dividedUp floor greatestAt step4 step3 search greatestOutputs solvable found natural replyOf solve replyBytes caseVerdict dispatchVerdict dispatchEnds dispatched priceVerdict priceEnds priced unitOfRow unitsOfRows packVerdict packEnds packed rowOfUnit rowsOfUnits unpackVerdict unpackEnds unpacked panelDispatched panelPriced panelPacked panelUnpacked allocation intervals regions
+unfolding numberAfter signed unsigned bytes bytesOfEach zones edgeOfBody unitOfBody bodyOfUnit caseOf contentsFrom bodiesOf fileIn editionVerdict headVerdict contentsVerdict zonesAscend unitVerdict bodyVerdict fileVerdict permitted cost linearFactor net totalCost totalNet offer problemOf pricedCost preferredFrom preferred total choices lowered selected dualValue dividedUp floor greatestAt step4 step3 search greatestOutputs solvable found natural replyOf solve replyBytes caseVerdict dispatchVerdict dispatchEnds dispatched priceVerdict priceEnds priced unitOfRow withLoss unitsOfRows packVerdict packEnds packedIn rowOfUnit rowsOfUnits unpackVerdict unpackEnds unpacked panelDispatched panelPriced panelPacked panelPacked2 panelUnpacked allocation intervals regions
 answer (dispatch file) = let r = dispatched file buffer in ofDispatch (r .answer) (r .reply)
 answer (price file m) = ofPricing (priced file m)
 answer (pack d rows) = let r = packed d rows buffer in ofPacking (r .answer) (r .file)
 answer (check file) = checks (numberOfVerdict (fileVerdict file))
 answer (dispatchInto file reply) = let r = dispatched file reply in ofDispatch (r .answer) (r .reply)
 answer (packInto d rows file) = let r = packed d rows file in ofPacking (r .answer) (r .file)
+answer (pack2Into d rows b1 file) = let r = packed2 d rows b1 file in ofPacking (r .answer) (r .file)
 answer (unpackInto file rows) = let r = unpacked file rows in ofUnpacking (r .answer) (r .rows)
 answer (panelDispatch file reply) = let r = panelDispatched file reply in returns (r .number) (r .reply) []
 answer (panelPrice file m answers) = let r = panelPriced file m answers in returns (r .number) [] (r .answers)
 answer (panelPack d rows file) = let r = panelPacked d rows file in returns (r .number) (r .file) []
+answer (panelPack2 d rows b1 file) = let r = panelPacked2 d rows b1 file in returns (r .number) (r .file) []
 answer (panelUnpack file rows answers) = let r = panelUnpacked file rows answers in returns (r .number) (r .rows) (r .answers)
 answer (allocate us ps) = allocates (allocation us ps)
 answer (searchFor target) = ofSearch (search (λ m. m) (λ x. 2 * x) target 70000)

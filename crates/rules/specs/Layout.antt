@@ -1,13 +1,13 @@
--- Rules 2.1 to 3.5 of docs/SPECIFICATION.md: the planner's row and the file's body that spell a unit, and the whole file. Fields are big-endian (`fields`). A body is laid out by the file's edition e; what is written is edition 1.
+-- Rules 2.1 to 3.5 of docs/SPECIFICATION.md: the planner's row and the file's body that spell a unit, and the whole file. Fields are big-endian (`fields`). A body is laid out by the file's edition e, where it is read and where it is written.
 use Prim.Native.Nat.{ℕ, _+_, _*_, _/_}
 use mathlib.Core.Bool.{cond}
 use mathlib.Core.List.{List, [], _∷_, _++_, map}
 use lib.Dec.{ltb, eqb}
 use lib.IntN.{ℤ, pos}
 use lib.ListN.{length, getD, take, drop}
-use Rattle.fields.specs.Field.{field, signedField, bytes, bytesOfEach}
+use Rattle.fields.specs.Field.{field, signedField, unsigned, bytes, bytesOfEach}
 use Rattle.rules.specs.Lists.{each, sum}
-use Rattle.rules.specs.Unit.{Unit}
+use Rattle.rules.specs.Unit.{Unit, withLoss}
 
 -- ---- (rules 3.1, 3.2, 3.5) a row: the eleven numbers of a body of edition 1 before its edges, in the same order, then eight edges, of which the unused are zero; it has no b1
 
@@ -33,15 +33,15 @@ unfoldable pub rowOfUnit : Unit → List ℕ
 rowOfUnit u =
     u .c0 ∷ u .c1 ∷ u .c2 ∷ u .b ∷ u .least ∷ u .greatest ∷ u .previous ∷ u .up ∷ u .down ∷ u .mark ∷ u .zoneCount ∷ u .edges
 
--- row i, counted from 0, and its unit
+-- row i, counted from 0, and its unit; b1 is entry i of a list beside the rows, and 0 where the list is empty
 abbrev pub rowAt : List ℕ → ℕ → List ℕ
 rowAt rows i = take 19 (drop (19 * i) rows)
 
-abbrev pub unitInRow : List ℕ → ℕ → Unit
-unitInRow rows i = unitOfRow (rowAt rows i)
+abbrev pub unitInRow : List ℕ → List ℤ → ℕ → Unit
+unitInRow rows b1 i = withLoss (unitOfRow (rowAt rows i)) (getD b1 i (pos 0))
 
-unfoldable pub unitsOfRows : List ℕ → List Unit
-unitsOfRows rows = each (length rows / 19) (unitInRow rows)
+unfoldable pub unitsOfRows : List ℕ → List ℤ → List Unit
+unitsOfRows rows b1 = each (length rows / 19) (unitInRow rows b1)
 
 unfoldable pub rowsOfUnits : List Unit → List ℕ
 rowsOfUnits [] = []
@@ -55,6 +55,10 @@ linearLoss e body = cond (eqb e 2) (signedField body 26 4) (pos 0)
 
 abbrev pub edgesStart : ℕ → ℕ
 edgesStart e = cond (eqb e 2) 30 26
+
+-- what edition 2 alone has, so much of it
+abbrev pub inSecond : ℕ → ℕ → ℕ
+inSecond e n = cond (eqb e 2) n 0
 
 -- edge k of a body with z zones; the unused ones are zero
 unfoldable pub edgeOfBody : ℕ → List ℕ → ℕ → ℕ → ℕ
@@ -82,12 +86,12 @@ unitOfBody e body =
 abbrev pub bodyLength : ℕ → ℕ → ℕ
 bodyLength e z = edgesStart e + 4 * z
 
--- the body of edition 1, which has no b1
-unfoldable pub bodyOfUnit : Unit → List ℕ
-bodyOfUnit u =
+-- the body of a unit; b1 takes four bytes in edition 2, none in edition 1
+unfoldable pub bodyOfUnit : ℕ → Unit → List ℕ
+bodyOfUnit e u =
     bytes 4 (u .c0) ++ bytes 4 (u .c1) ++ bytes 2 (u .c2) ++ bytes 2 (u .b) ++ bytes 2 (u .least) ++ bytes 2 (u .greatest)
     ++ bytes 2 (u .previous) ++ bytes 2 (u .up) ++ bytes 2 (u .down) ++ bytes 2 (u .mark) ++ bytes 2 (u .zoneCount)
-    ++ bytesOfEach 2 (take (2 * u .zoneCount) (u .edges))
+    ++ bytes (inSecond e 4) (unsigned 4 (u .b1)) ++ bytesOfEach 2 (take (2 * u .zoneCount) (u .edges))
 
 -- ---- the file (rules 2.2 to 2.4): a head of 8 bytes, the contents (the file's directory: 4 bytes to a unit), the bodies
 
@@ -123,20 +127,24 @@ pub record Case : Type 0 where
 unfoldable pub caseOf : List ℕ → Case
 caseOf file = record { demand = demand file; units = each (count file) (unitAt file) }
 
--- ---- a file of edition 1, as packing writes it
+-- ---- a file of edition e, as packing writes it
 
 -- the entries of units whose bodies start at a place
-unfoldable pub contentsFrom : ℕ → List Unit → List ℕ
-contentsFrom at [] = []
-contentsFrom at (u ∷ us) = bytes 2 at ++ bytes 2 (bodyLength 1 (u .zoneCount)) ++ contentsFrom (at + bodyLength 1 (u .zoneCount)) us
+unfoldable pub contentsFrom : ℕ → ℕ → List Unit → List ℕ
+contentsFrom e at [] = []
+contentsFrom e at (u ∷ us) = bytes 2 at ++ bytes 2 (bodyLength e (u .zoneCount)) ++ contentsFrom e (at + bodyLength e (u .zoneCount)) us
 
-unfoldable pub bodiesOf : List Unit → List ℕ
-bodiesOf [] = []
-bodiesOf (u ∷ us) = bodyOfUnit u ++ bodiesOf us
+unfoldable pub bodiesOf : ℕ → List Unit → List ℕ
+bodiesOf e [] = []
+bodiesOf e (u ∷ us) = bodyOfUnit e u ++ bodiesOf e us
 
 -- how long the bodies are together
-abbrev pub bodiesLength : List Unit → ℕ
-bodiesLength us = sum (map (λ u. bodyLength 1 (u .zoneCount)) us)
+abbrev pub bodiesLength : ℕ → List Unit → ℕ
+bodiesLength e us = sum (map (λ u. bodyLength e (u .zoneCount)) us)
 
-unfoldable pub fileOf : ℕ → List Unit → List ℕ
-fileOf d us = bytes 2 1 ++ bytes 2 (length us) ++ bytes 4 d ++ contentsFrom (8 + 4 * length us) us ++ bodiesOf us
+unfoldable pub fileIn : ℕ → ℕ → List Unit → List ℕ
+fileIn e d us = bytes 2 e ++ bytes 2 (length us) ++ bytes 4 d ++ contentsFrom e (8 + 4 * length us) us ++ bodiesOf e us
+
+-- of edition 1
+abbrev pub fileOf : ℕ → List Unit → List ℕ
+fileOf d us = fileIn 1 d us

@@ -93,11 +93,11 @@ abbrev pub packVerdictBefore : ℕ → List ℕ → List ℕ → Verdict
 packVerdictBefore d rows file =
     (eqb (length rows) 0 || not (eqb (length rows % 19) 0) || ltb 608 (length rows)) refuses RowsInvalid
     then ltb 320000 d refuses DemandOutOfRange
-    then inOrder (map unitVerdictBefore (unitsOfRows rows))
-    then ltb (length file) (fileLength (unitsOfRows rows)) refuses FileBufferTooShort
+    then inOrder (map unitVerdictBefore (unitsOfRows rows []))
+    then ltb (length file) (fileLength 1 (unitsOfRows rows [])) refuses FileBufferTooShort
 
 abbrev pub packedBefore : ℕ → List ℕ → List ℕ → PackResult
-packedBefore d rows file = packEnds (packVerdictBefore d rows file) d rows file
+packedBefore d rows file = packEnds (packVerdictBefore d rows file) 1 d rows [] file
 
 -- ---- (rule 16.24) without a shared edge nothing is otherwise
 

@@ -1,20 +1,28 @@
--- Rules 16.4 to 16.6 (demand 2: packing and unpacking undo each other) and 16.15 (a zone is obeyed or its file refused) of docs/SPECIFICATION.md, as statements. (They are proved in proofs/Encoding/Undo and proofs/Obeyed.) Files of edition 1 are the only ones that pack and unpack; the zones are those of both editions.
+-- Rules 16.4 to 16.6 (demand 2: packing and unpacking undo each other) and 16.15 (a zone is obeyed or its file refused) of docs/SPECIFICATION.md, as statements. (They are proved in proofs/Encoding/Undo and proofs/Obeyed.) Files of edition 1 are the only ones that unpack; what is packed in edition 2 is read back as a case. The zones are those of both editions.
 use Prim.Native.Nat.{ℕ, _+_, _*_, _/_, _≤_, _<_}
 use mathlib.Core.Bool.{false}
-use mathlib.Core.List.{List}
+use mathlib.Core.List.{List, map}
 use mathlib.Core.Logic.{_⊎_}
 use mathlib.Core.Path.{_≡_}
+use lib.IntN.{ℤ}
 use lib.ListN.{length, getD, take}
 use Rattle.fields.specs.Field.{Bytes}
 use Rattle.rules.specs.Lists.{over}
 use Rattle.rules.specs.Unit.{permitted}
-use Rattle.rules.specs.Layout.{count, body, unitAt}
+use Rattle.rules.specs.Layout.{caseOf, unitsOfRows, rowsOfUnits, count, body, unitAt}
 use Rattle.rules.specs.Refusal.{fileVerdict}
-use Rattle.rules.specs.Calls.{packed, unpacked}
+use Rattle.rules.specs.Calls.{packed, packed2, unpacked}
 use Rattle.rules.specs.declared.Refusal.{Refusal}
 use Rattle.rules.specs.declared.Verdict.{Verdict}
 use Rattle.rules.specs.declared.Packed.{Packed}
 use Rattle.rules.specs.declared.Unpacked.{Unpacked}
+
+-- a file that is accepted, and whose case is a demand, rows and a b1 for each
+pub record PackedCase (d : ℕ) (rows : List ℕ) (b1 : List ℤ) (file : List ℕ) : Type 0 where
+  pub accepted : fileVerdict file ≡ Verdict.Accepted
+  pub case : caseOf file ≡ record { demand = d; units = unitsOfRows rows b1 }
+  pub rows-back : rowsOfUnits (caseOf file .units) ≡ rows
+  pub losses-back : map (λ u. u .b1) (caseOf file .units) ≡ b1
 
 -- (rule 16.4) what packing writes is an accepted file
 abbrev pub PackedFileIsAccepted : Type 0
@@ -22,6 +30,13 @@ PackedFileIsAccepted =
     (d : ℕ) (rows buffer : List ℕ) (n : ℕ)
     → packed d rows buffer .answer ≡ Packed.Written n
     → fileVerdict (take n (packed d rows buffer .file)) ≡ Verdict.Accepted
+
+-- and one of edition 2 is accepted too, and read as the case that was packed: its demand, its rows and its b1
+abbrev pub ReadingUndoesPacking2 : Type 0
+ReadingUndoesPacking2 =
+    (d : ℕ) (rows : List ℕ) (b1 : List ℤ) (buffer : List ℕ) (n : ℕ)
+    → packed2 d rows b1 buffer .answer ≡ Packed.Written n
+    → PackedCase d rows b1 (take n (packed2 d rows b1 buffer .file))
 
 -- (rule 16.5) and unpacking it gives back exactly the demand and the rows
 abbrev pub UnpackingUndoesPacking : Type 0

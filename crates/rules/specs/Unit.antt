@@ -43,6 +43,25 @@ withPrevious u p =
       edges = u .edges;
     }
 
+-- (rule 3.5) the unit with another b1
+unfoldable pub withLoss : Unit → ℤ → Unit
+withLoss u z =
+    record {
+      c0 = u .c0;
+      c1 = u .c1;
+      c2 = u .c2;
+      b = u .b;
+      b1 = z;
+      least = u .least;
+      greatest = u .greatest;
+      previous = u .previous;
+      up = u .up;
+      down = u .down;
+      mark = u .mark;
+      zoneCount = u .zoneCount;
+      edges = u .edges;
+    }
+
 -- a prohibited operating zone
 pub record Zone : Type 0 where
   pub lower : ℕ

@@ -1,3 +1,4 @@
 pub mod TableOfLowering
 pub mod TableOfLoads
 pub mod TableOfSharedEdges
+pub mod TableOfPackings

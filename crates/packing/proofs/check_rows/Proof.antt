@@ -11,10 +11,10 @@ use Rattle.packing.proofs.check_rows.Statement.{statement}
 use Rattle.packing.proofs.check_rows.Tie as tie
 
 abbrev Inv-loop : tie.InvT-loop
-Inv-loop rows n i₀ i = Checked n (λ i. unitVerdict (unitInRow rows i)) i
+Inv-loop rows b1 n i₀ i = Checked n (λ i. unitVerdict (unitInRow rows b1 i)) i
 
 abbrev μ-loop : tie.MeasureT-loop
-μ-loop rows n i₀ i = n - i
+μ-loop rows b1 n i₀ i = n - i
 
 loop-holds : tie.Need-loop-holds Inv-loop μ-loop
 loop-holds c = checked-starts _ _
@@ -34,7 +34,7 @@ returns c =
     let a = c .before .before .before .before .before .before .before .args in
     let told = c .enum-told .given .1 in
     let checked = sym (ap unitVerdict (c .before .before .before .read-row .ensures)) ∙ sym (c .before .before .check-unit .ensures) ∙ told in
-    told ∙ sym (checked-refused (a .n) (λ i. unitVerdict (unitInRow (now (a .rows)) i)) (l .i) (l .inv) (omega arith) checked)
+    told ∙ sym (checked-refused (a .n) (λ i. unitVerdict (unitInRow (now (a .rows)) (now (a .b1)) i)) (l .i) (l .inv) (omega arith) checked)
 
 enum-told-2 : tie.Need-enum-told-2 Inv-loop μ-loop
 enum-told-2 c = search needs
@@ -49,13 +49,13 @@ loop-again : tie.Need-loop-again Inv-loop μ-loop
 loop-again c =
     let l = c .before .before .before .before .before .loop in
     let a = c .before .before .before .before .before .before .before .args in
-    checked-more (a .n) (λ i. unitVerdict (unitInRow (now (a .rows)) i)) (l .i) (l .inv) (omega arith) (sym (ap unitVerdict (c .before .before .before .read-row .ensures)) ∙ sym (c .before .before .check-unit .ensures) ∙ c .enum-told2 .given .1)
+    checked-more (a .n) (λ i. unitVerdict (unitInRow (now (a .rows)) (now (a .b1)) i)) (l .i) (l .inv) (omega arith) (sym (ap unitVerdict (c .before .before .before .read-row .ensures)) ∙ sym (c .before .before .check-unit .ensures) ∙ c .enum-told2 .given .1)
 
 returns-2 : tie.Need-returns-2 Inv-loop μ-loop
 returns-2 c =
     let l = c .before .loop in
     let a = c .before .before .before .args in
-    sym (checked-ends (a .n) (λ i. unitVerdict (unitInRow (now (a .rows)) i)) (l .i) (l .inv) (omega arith))
+    sym (checked-ends (a .n) (λ i. unitVerdict (unitInRow (now (a .rows)) (now (a .b1)) i)) (l .i) (l .inv) (omega arith))
 
 pub check-rows-spec : {M : Type 1} → statement M
 check-rows-spec =

@@ -15,19 +15,22 @@ use Rattle.packing.proofs.write_bodies.Statement.{statement}
 use Rattle.packing.proofs.write_bodies.Tie as tie
 
 abbrev Inv-loop : tie.InvT-loop
-Inv-loop part₀ rows n at₀ i₀ part at i = (i ≤ n) × (length part ≡ length part₀) × (at ≡ total (unitInRow rows) i) × (at ≤ 42 * i) × Front part₀ (bodiesOf (each i (unitInRow rows))) part at
+Inv-loop part₀ edition rows b1 n at₀ i₀ part at i = (i ≤ n) × (length part ≡ length part₀) × (at ≡ total edition (unitInRow rows b1) i) × (at ≤ 46 * i) × Front part₀ (bodiesOf edition (each i (unitInRow rows b1))) part at
 
 abbrev μ-loop : tie.MeasureT-loop
-μ-loop part₀ rows n at₀ i₀ part at i = n - i
+μ-loop part₀ edition rows b1 n at₀ i₀ part at i = n - i
 
 loop-holds : tie.Need-loop-holds Inv-loop μ-loop
 unfolding bodiesOf
 loop-holds c = (omega arith, refl, refl, omega arith, front-none (now (c .before .before .args .part)))
 
-room : (c : tie.In-loop Inv-loop μ-loop) → c .before .loop .at + sizeOf (unitInRow (now (c .before .before .before .before .args .rows)) (c .before .loop .i)) ≤ length (now (c .before .before .before .before .args .part))
+read-row-requires : tie.Need-read-row-requires Inv-loop μ-loop
+read-row-requires c κs = omega arith
+
+room : (c : tie.After-read-row Inv-loop μ-loop) → c .before .before .loop .at + sizeOf (c .before .before .before .before .before .args .edition) (unitInRow (now (c .before .before .before .before .before .args .rows)) (now (c .before .before .before .before .before .args .b1)) (c .before .before .loop .i)) ≤ length (now (c .before .before .before .before .before .args .part))
 room c =
-    let s = c .before .before .before .before in
-    omega (arith, total-until (unitInRow (now (s .args .rows))) (c .before .loop .i) (s .args .n) (omega arith), s .pre .1)
+    let a = c .before .before .before .before .before .args in
+    omega (arith, total-until (a .edition) (unitInRow (now (a .rows)) (now (a .b1))) (c .before .before .loop .i) (a .n) (omega arith), c .before .before .before .before .before .pre .1)
 
 sub-write-body : tie.Need-sub-write-body Inv-loop μ-loop
 sub-write-body c = omega (arith, room c)
@@ -38,19 +41,13 @@ part-write-body-start c = omega (arith, room c)
 part-write-body-end : tie.Need-part-write-body-end Inv-loop μ-loop
 part-write-body-end c = omega arith
 
-read-row-requires : tie.Need-read-row-requires Inv-loop μ-loop
-read-row-requires c κs = omega arith
-
 write-body-requires : tie.Need-write-body-requires Inv-loop μ-loop
 write-body-requires c κs =
-    let s = c .before .before .before .before .before .before in
-    let l = c .before .before .before .loop in
-    (ap unitVerdict (c .read-row .ensures) ∙ s .pre .0 .accepted (l .i) (omega arith), simp (length-take, length-drop) (omega (arith, room (c .before .before), ap (λ (u : Unit). u .zoneCount) (c .read-row .ensures))))
+    let row = c .before .read-row .ensures in
+    (ap unitVerdict row ∙ c .before .before .before .before .before .before .pre .0 .accepted (c .before .before .before .loop .i) (omega arith), simp (length-take, length-drop) (omega (arith, room (c .before), ap (λ (u : Unit). u .zoneCount) row)))
 
 body-length-requires : tie.Need-body-length-requires Inv-loop μ-loop
-body-length-requires c κs =
-    let s = c .before .before .before .before .before .before .before .before .before in
-    (omega arith, few-zones (s .pre .0) (c .before .before .before .before .before .before .loop .i) (omega arith))
+body-length-requires c κs = few-zones (c .before .before .before .before .before .before .before .before .before .pre .0) (c .before .before .before .before .before .before .loop .i) (omega arith) (c .before .before .before .before .read-row .ensures)
 
 add-at : tie.Need-add-at Inv-loop μ-loop
 add-at c = omega arith
@@ -63,12 +60,13 @@ loop-less c = omega arith
 
 loop-again : tie.Need-loop-again Inv-loop μ-loop
 loop-again c =
-    let s = c .before .before .before .before .before .before .before .before .before .before in
+    let a = c .before .before .before .before .before .before .before .before .before .before .args in
     let l = c .before .before .before .before .before .before .before .loop in
-    let rows = now (s .args .rows) in
-    let size = c .body-length .ensures in
-    let f = rw (← size .0) at (body-next (s .pre .0) (l .i) (omega arith) (c .before .before .before .write-body .last .0) (l .inv .4) (c .before .before .before .write-body .ensures ∙ ap (λ (u : Unit). over (bodyOfUnit u) (lent (l .at) (l .part))) (c .before .before .before .before .read-row .ensures))) in
-    (omega arith, front-length f (omega (arith, room (c .before .before .before .before .before .before))), omega (arith, total-more (unitInRow rows) (l .i)), omega arith, f)
+    let units = unitInRow (now (a .rows)) (now (a .b1)) in
+    let row = c .before .before .before .before .before .read-row .ensures in
+    let size : c .body-length .result ≡ sizeOf (a .edition) (units (l .i)) = c .body-length .ensures .0 ∙ ap (sizeOf (a .edition)) row in
+    let f = rw (← size) at (body-next (c .before .before .before .before .before .before .before .before .before .before .pre .0) (l .i) (omega arith) (c .before .before .before .write-body .last .0) (l .inv .4) (c .before .before .before .write-body .ensures ∙ ap (λ (u : Unit). over (bodyOfUnit (a .edition) u) (lent (l .at) (l .part))) row)) in
+    (omega arith, front-length f (omega (arith, room (c .before .before .before .before .before))), omega (arith, total-more (a .edition) units (l .i)), omega arith, f)
 
 same-length : tie.Need-same-length Inv-loop μ-loop
 same-length c = omega arith
@@ -78,7 +76,7 @@ returns c =
     let l = c .before .loop in
     let a = c .before .before .before .before .args in
     let e : l .i ≡ a .n = omega arith in
-    front-over (l .inv .4) ∙ ap (λ (n : ℕ). over (bodiesOf (each n (unitInRow (now (a .rows))))) (now (a .part))) e
+    front-over (l .inv .4) ∙ ap (λ (n : ℕ). over (bodiesOf (a .edition) (each n (unitInRow (now (a .rows)) (now (a .b1))))) (now (a .part))) e
 
 pub write-bodies-spec : {M : Type 1} → statement M
 write-bodies-spec =
@@ -87,10 +85,10 @@ write-bodies-spec =
     Inv-loop
     μ-loop
     loop-holds
+    read-row-requires
     sub-write-body
     part-write-body-start
     part-write-body-end
-    read-row-requires
     write-body-requires
     body-length-requires
     add-at

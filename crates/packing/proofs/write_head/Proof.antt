@@ -23,7 +23,7 @@ same-length c = search needs
 returns : tie.Need-returns
 returns c =
     let a = c .before .before .before .before .before .before .before .before .before .before .before .before .before .args in
-    let f₁ = front-field (front-none (now (a .file))) 2 1 (c .before .before .before .before .before .before .before .before .before .before .write-u16 .ensures) in
+    let f₁ = front-field (front-none (now (a .file))) 2 (a .edition) (c .before .before .before .before .before .before .before .before .before .before .write-u16 .ensures) in
     let f₂ = front-field f₁ 2 (a .n) (c .before .before .before .before .before .before .write-u162 .ensures) in
     front-over (front-field f₂ 4 (a .demand) (c .before .before .write-u32 .ensures))
 

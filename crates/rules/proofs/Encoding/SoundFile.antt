@@ -112,29 +112,27 @@ module _ {file : List ℕ} (s : SoundFile file) where
   pub unit-at-sound : (i : ℕ) → i < count file → Sound (unitAt file i)
   unit-at-sound i h = sound-body (edition file) (body file i) (s .bodies i h) .unit
 
-  -- of edition 1
-  module _ (one : edition file ≡ 1) where
-    sound-at : (i : ℕ) → i < count file → SoundBody 1 (body file i)
-    sound-at i h = sound-body 1 (body file i) (rw one at (s .bodies i h))
+  sound-at : (i : ℕ) → i < count file → SoundBody (edition file) (body file i)
+  sound-at i h = sound-body (edition file) (body file i) (s .bodies i h)
 
-    pub unit-at-packable : (i : ℕ) → i < count file → Packable (unitAt file i)
-    unit-at-packable i h = rw one (body-packable (body file i) (sound-at i h))
+  pub unit-at-packable : (i : ℕ) → i < count file → Packable (edition file) (unitAt file i)
+  unit-at-packable i h = body-packable (edition file) (body file i) (sound-at i h)
 
-    pub size-at : (i : ℕ) → i < count file → size file i ≡ bodyLength 1 (unitAt file i .zoneCount)
-    size-at i h = rw one (sym (length-body-at (s .contents) i h) ∙ sound-at i h .size)
+  pub size-at : (i : ℕ) → i < count file → size file i ≡ bodyLength (edition file) (unitAt file i .zoneCount)
+  size-at i h = sym (length-body-at (s .contents) i h) ∙ sound-at i h .size
 
-    pub body-at : Bytes file → (i : ℕ) → i < count file → bodyOfUnit (unitAt file i) ≡ body file i
-    body-at b i h = rw one (body-unit-body (body file i) (sound-at i h) (bytes-part file (offset file i) (size file i) b))
+  pub body-at : Bytes file → (i : ℕ) → i < count file → bodyOfUnit (edition file) (unitAt file i) ≡ body file i
+  body-at b i h = body-unit-body (edition file) (body file i) (sound-at i h) (bytes-part file (offset file i) (size file i) b)
 
 -- every unit of an accepted file is sound
 pub units-sound : (file : List ℕ) → fileVerdict file ≡ Accepted → Every Sound (caseOf file .units)
 unfolding caseOf
 units-sound file e = every-each Sound (count file) (unitAt file) (unit-at-sound (sound-file file .0 e))
 
--- and of one of edition 1 is one that packing can write
-pub units-packable : (file : List ℕ) → fileVerdict file ≡ Accepted → edition file ≡ 1 → Every Packable (caseOf file .units)
+-- and one that packing can write
+pub units-packable : (file : List ℕ) → fileVerdict file ≡ Accepted → Every (Packable (edition file)) (caseOf file .units)
 unfolding caseOf
-units-packable file e one = every-each Packable (count file) (unitAt file) (unit-at-packable (sound-file file .0 e) one)
+units-packable file e = every-each (Packable (edition file)) (count file) (unitAt file) (unit-at-packable (sound-file file .0 e))
 
 -- ---- how long an accepted file is: each body has from edgesStart bytes up to 16 more
 module _ {file : List ℕ} (s : SoundFile file) where

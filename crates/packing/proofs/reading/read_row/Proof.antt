@@ -1,47 +1,37 @@
 -- `packing::reading::read_row` meets its contract.
 use Prim.Native.Nat.{_+_, _-_, _*_}
 use native.Mathlib.Omega.{arith}
-use mathlib.Core.Path.{_≡_}
+use mathlib.Core.Path.{_≡_, ap, _∙_}
+use lib.IntN.{ℤ}
+use mir.Syntax.{w32}
+use mir.Val.{SFits}
+use mir.Facts.{toZ-ofZ}
 use borrow.Author.Needs.{needs}
+use denote.Ref.{now}
+use Rattle.rules.specs.Unit.{withLoss}
+use Rattle.rules.specs.Layout.{unitOfRow, rowAt}
 use Rattle.packing.proofs.reading.read_row.Statement.{statement}
 use Rattle.packing.proofs.reading.read_row.Tie as tie
 
-mul-at : tie.Need-mul-at
-mul-at c = search needs
-
-add-end : tie.Need-add-end
-add-end c = search needs
-
-mul-row-numbers : tie.Need-mul-row-numbers
-mul-row-numbers c = search needs
-
-sub-row-numbers : tie.Need-sub-row-numbers
-sub-row-numbers c = search needs
-
-part-row-numbers-start : tie.Need-part-row-numbers-start
-part-row-numbers-start c = search needs
-
-part-row-numbers-end : tie.Need-part-row-numbers-end
-part-row-numbers-end c = search needs
-
-row-numbers-requires : tie.Need-row-numbers-requires
-row-numbers-requires c κs = search needs
+fits : (c : tie.After-linear-loss) → SFits w32 (c .linear-loss .result)
+fits c = search needs
 
 returns : tie.Need-returns
 returns c =
-    let i = c .before .before .before .args .i in
-    let e : 19 * i + 19 - 19 * i ≡ 19 = omega arith in
-    rw e at (c .row-numbers .ensures)
+    let a = c .before .before .before .before .args in
+    let e : 19 * a .i + 19 - 19 * a .i ≡ 19 = omega arith in
+    rw (e, toZ-ofZ {w = w32} (fits (c .before))) at (c .row-numbers .ensures) ∙ ap (withLoss (unitOfRow (rowAt (now (a .rows)) (a .i)))) (c .before .linear-loss .ensures)
 
 pub read-row-spec : {M : Type 1} → statement M
 read-row-spec =
     tie.close
     (tie.spec
-    mul-at
-    add-end
-    mul-row-numbers
-    sub-row-numbers
-    part-row-numbers-start
-    part-row-numbers-end
-    row-numbers-requires
+    (λ c. search needs)
+    (λ c. search needs)
+    (λ c. search needs)
+    (λ c. search needs)
+    (λ c. search needs)
+    (λ c. search needs)
+    (λ c κs. search needs)
+    (λ c κs. search needs)
     returns)
