@@ -4,7 +4,7 @@
  * whole steps of 0.1 MW. For each hour it prints the demand, the cost, the gap in percent of the cost and what each unit gives, or
  * that the units cannot cover it; then how often each unit starts, and the total. From the repository's root, build and run it by
  *
- *     gcc -std=c99 -O2 -Iinclude -o target/day examples/day.c target/staticlib/libpanel.a
+ *     gcc -std=c99 -O2 -Iinclude -o target/day examples/day.c target/lib/libshahfureel.a
  *     target/day examples/harbour.case
  *
  * The status is 0, or 1 if the case cannot be taken, which standard error then explains. */
@@ -56,8 +56,8 @@ static int make_demands(const char *name)
 {
     uint32_t number = plan(0), own = (uint32_t)shahfureel_big_endian(file + DEMAND_AT, 4);
     if (number != 0) {
-        fprintf(stderr, "%s: refused with %" PRIu32 ": ", name, number);
-        return wrong("it is no case file, or a damaged one", "make it anew, as target/site does");
+        fprintf(stderr, "%s: refused with %" PRIu32 ": %s\n", name, number, shahfureel_refusal_text(number));
+        return 1;
     }
     if (own == 0)
         return wrong(name, "its demand is 0, and so is every part of it: give the case the demand that you expect");

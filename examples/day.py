@@ -3,7 +3,7 @@
 import ctypes, struct, sys
 class History(ctypes.Structure):
     _fields_ = [("previous", ctypes.c_uint16), ("starts", ctypes.c_uint16)]
-day = ctypes.CDLL("target/libshahfureel.so").shahfureel_day
+day = ctypes.CDLL("libshahfureel.so.1").shahfureel_day
 day.restype = ctypes.c_uint32
 day.argtypes = [ctypes.c_char_p, ctypes.c_size_t, ctypes.POINTER(ctypes.c_uint32), ctypes.c_size_t,
                 ctypes.c_char_p, ctypes.c_size_t, ctypes.POINTER(History), ctypes.c_size_t,

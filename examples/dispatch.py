@@ -1,6 +1,6 @@
 # Dispatches the case file named on the command line by the shared library, and prints the reply as the program `dispatch` does.
 import ctypes, struct, sys
-dispatch = ctypes.CDLL("target/libshahfureel.so").shahfureel_dispatch
+dispatch = ctypes.CDLL("libshahfureel.so.1").shahfureel_dispatch
 dispatch.restype = ctypes.c_uint32
 dispatch.argtypes = [ctypes.c_char_p, ctypes.c_size_t, ctypes.c_char_p, ctypes.c_size_t]
 file, reply = open(sys.argv[1], "rb").read(), ctypes.create_string_buffer(92)

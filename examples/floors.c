@@ -4,7 +4,7 @@
  * MW and what an hour of it costs at least: no permitted outputs of these units cover it for less. One search, for the case's own
  * demand, gives all of these floors. From the repository's root, build it and run it by
  *
- *     gcc -std=c99 -O2 -Iinclude -o target/floors examples/floors.c target/staticlib/libpanel.a
+ *     gcc -std=c99 -O2 -Iinclude -o target/floors examples/floors.c target/lib/libshahfureel.a
  *     target/floors examples/harbour.case
  *
  * The status is 0, or 1 if the case cannot be taken, which standard error then explains. */
@@ -39,10 +39,7 @@ static int wrong(const char *what, const char *why)
 
 static int wrong_case(const char *name, uint32_t number)
 {
-    if (number == SHAHFUREEL_NO_ALLOCATION)
-        return wrong(name, "refused with 11: these units cannot cover the case's own demand: lower it, or widen what they give");
-    fprintf(stderr, "%s: refused with %" PRIu32 ": it is no case file, or a damaged one: make it anew, as target/site does\n",
-            name, number);
+    fprintf(stderr, "%s: refused with %" PRIu32 ": %s\n", name, number, shahfureel_refusal_text(number));
     return 0;
 }
 

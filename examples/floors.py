@@ -1,6 +1,6 @@
 # For the case file named on the command line and demands in steps of 0.1 MW, prints each demand and its floor, by the shared library.
 import ctypes, sys
-floors = ctypes.CDLL("target/libshahfureel.so").shahfureel_floors
+floors = ctypes.CDLL("libshahfureel.so.1").shahfureel_floors
 floors.restype = ctypes.c_uint32
 floors.argtypes = [ctypes.c_char_p, ctypes.c_size_t, ctypes.POINTER(ctypes.c_uint32), ctypes.c_size_t,
                    ctypes.POINTER(ctypes.c_int64), ctypes.c_size_t, ctypes.POINTER(ctypes.c_int64), ctypes.c_size_t]

@@ -4,7 +4,7 @@
  * what is wrong with it. The call refuses a whole row; to find the words at fault, each is read alone, in a row that is right in
  * all others. The status is 0, or 1 if a row is refused or input or output fails. From the repository's root, build and run it by
  *
- *     gcc -std=c99 -O2 -Iinclude -o target/gencost examples/gencost.c target/staticlib/libpanel.a
+ *     gcc -std=c99 -O2 -Iinclude -o target/gencost examples/gencost.c target/lib/libshahfureel.a
  *     target/gencost < examples/gencost-rows.txt */
 #include "shahfureel.h"
 

@@ -4,7 +4,7 @@
  * stands. It says what they cost, how far that is from the best at most, and what dispatch's own outputs cost; or why the outputs
  * are not accepted. From the repository's root, build it and run it by
  *
- *     gcc -std=c99 -O2 -Iinclude -o target/judge examples/judge.c target/staticlib/libpanel.a
+ *     gcc -std=c99 -O2 -Iinclude -o target/judge examples/judge.c target/lib/libshahfureel.a
  *     target/judge examples/harbour.case 10 8.6 0 5
  *
  * The status is 0 if they are accepted, 1 if they are not; and 2 if the case or a number cannot be taken, which standard error then
@@ -39,21 +39,6 @@ static int wrong(const char *what, const char *why)
     return 0;
 }
 
-/* What each refusal means; 1 does not come, as the answers have their room, nor do those of other calls. */
-static const char *const REFUSALS[] = {
-    [SHAHFUREEL_FILE_TOO_SHORT] = "it has less than 8 bytes",
-    [SHAHFUREEL_EDITION_UNKNOWN] = "its edition is neither 1 nor 2",
-    [SHAHFUREEL_COUNT_OUT_OF_RANGE] = "its number of units is not from 1 to 32",
-    [SHAHFUREEL_DEMAND_OUT_OF_RANGE] = "its demand is above 320,000 steps",
-    [SHAHFUREEL_CONTENTS_INVALID] = "its contents, an entry or its end are not where they must be",
-    [SHAHFUREEL_ZONE_COUNT_INVALID] = "a unit has more than four zones, or a body that does not fit their number",
-    [SHAHFUREEL_COEFFICIENT_OUT_OF_RANGE] = "c0, c1, c2 or b of a unit is above its limit",
-    [SHAHFUREEL_LIMITS_INVALID] = "least, greatest or edges of a unit are out of range or order",
-    [SHAHFUREEL_RAMP_OR_MARK_OUT_OF_RANGE] = "previous, up, down or mark of a unit is out of range",
-    [SHAHFUREEL_NO_ALLOCATION] = "no permitted outputs cover the demand after losses: lower it, or widen what the units may give",
-    [SHAHFUREEL_LOSSES_OUT_OF_RANGE] = "b1 of a unit is out of range, alone or together with its b",
-};
-
 static size_t units_of(const struct case_file *c) { return (size_t)shahfureel_big_endian(c->bytes + 2, 2); }
 
 static void explain_refusal(const char *name, const struct case_file *c, const struct list *l, uint32_t number)
@@ -62,7 +47,7 @@ static void explain_refusal(const char *name, const struct case_file *c, const s
         fprintf(stderr, "%s: units %zu, outputs given %zu: give one for each unit, 0 for one that stands\n", name, units_of(c),
                 l->given);
     else
-        fprintf(stderr, "%s: refused with %" PRIu32 ": %s\n", name, number, REFUSALS[number]);
+        fprintf(stderr, "%s: refused with %" PRIu32 ": %s\n", name, number, shahfureel_refusal_text(number));
     if (number != SHAHFUREEL_OUTPUT_COUNT_INVALID && number != SHAHFUREEL_NO_ALLOCATION)
         fprintf(stderr, "it is no case file, or a damaged one: make it anew, as target/site does\n");
 }

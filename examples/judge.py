@@ -1,6 +1,6 @@
 # Judges outputs, in steps of 0.1 MW, for the case file named on the command line by the shared library, and prints what is told.
 import ctypes, sys
-judge = ctypes.CDLL("target/libshahfureel.so").shahfureel_judge
+judge = ctypes.CDLL("libshahfureel.so.1").shahfureel_judge
 judge.restype = ctypes.c_uint32
 judge.argtypes = [ctypes.c_char_p, ctypes.c_size_t, ctypes.POINTER(ctypes.c_uint32), ctypes.c_size_t,
                   ctypes.POINTER(ctypes.c_int64), ctypes.c_size_t]

@@ -4,7 +4,7 @@
  * register holds what. Port 0 takes a free port. When it is ready it prints the port; SIGTERM or SIGINT ends it with status
  * 0. What it cannot take is said on standard error; then the status is 1. From the repository's root, build it and run it by
  *
- *     gcc -std=c99 -O2 -Iinclude -o target/modbus_server examples/modbus_server.c target/staticlib/libpanel.a
+ *     gcc -std=c99 -O2 -Iinclude -o target/modbus_server examples/modbus_server.c target/lib/libshahfureel.a
  *     target/modbus_server examples/harbour.case 1502
  *
  * shahfureel_view makes every answer; this program carries requests and answers. It has one thread, one loop around poll and a
@@ -58,21 +58,6 @@ struct client {
 
 /* ---- the reply */
 
-/* What each refusal of shahfureel_dispatch means; 1 does not come, as the reply has its room. */
-static const char *const REFUSALS[] = {
-    [SHAHFUREEL_FILE_TOO_SHORT] = "it has less than 8 bytes",
-    [SHAHFUREEL_EDITION_UNKNOWN] = "its edition is neither 1 nor 2",
-    [SHAHFUREEL_COUNT_OUT_OF_RANGE] = "its number of units is not from 1 to 32",
-    [SHAHFUREEL_DEMAND_OUT_OF_RANGE] = "its demand is above 320,000 steps",
-    [SHAHFUREEL_CONTENTS_INVALID] = "its contents, an entry or its end are not where they must be",
-    [SHAHFUREEL_ZONE_COUNT_INVALID] = "a unit has more than four zones, or a body that does not fit their number",
-    [SHAHFUREEL_COEFFICIENT_OUT_OF_RANGE] = "c0, c1, c2 or b of a unit is above its limit",
-    [SHAHFUREEL_LIMITS_INVALID] = "least, greatest or edges of a unit are out of range or order",
-    [SHAHFUREEL_RAMP_OR_MARK_OUT_OF_RANGE] = "previous, up, down or mark of a unit is out of range",
-    [SHAHFUREEL_NO_ALLOCATION] = "no permitted outputs cover the demand after losses",
-    [SHAHFUREEL_LOSSES_OUT_OF_RANGE] = "b1 of a unit is out of range, alone or together with its b",
-};
-
 /* A complaint; returns 0. */
 static int wrong(const char *what, const char *why)
 {
@@ -100,7 +85,7 @@ static int dispatch(const char *name, struct reply *r)
         return 0;
     uint32_t answer = shahfureel_dispatch(file, length, r->bytes, sizeof r->bytes);
     if (answer < SHAHFUREEL_LENGTH_MIN) {
-        fprintf(stderr, "%s: refused with %" PRIu32 ": %s\n", name, answer, REFUSALS[answer]);
+        fprintf(stderr, "%s: refused with %" PRIu32 ": %s\n", name, answer, shahfureel_refusal_text(answer));
         return 0;
     }
     r->length = answer;

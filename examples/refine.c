@@ -5,7 +5,7 @@
  * to be gained: the gap is 0, or the search has ended before its budget. Then it prints the best outputs. From the repository's
  * root, build and run it by
  *
- *     gcc -std=c99 -O2 -Iinclude -o target/refine examples/refine.c target/staticlib/libpanel.a
+ *     gcc -std=c99 -O2 -Iinclude -o target/refine examples/refine.c target/lib/libshahfureel.a
  *     target/refine examples/harbour.case
  *
  * The status is 0, or 1 if the case cannot be taken, which standard error then explains. */
@@ -28,10 +28,8 @@ static int wrong(const char *what, const char *why)
 
 static int refused(const char *name, uint32_t number)
 {
-    if (number == SHAHFUREEL_NO_ALLOCATION)
-        return wrong(name, "refused with 11: these units cannot cover the case's own demand: lower it, or widen what they give");
-    fprintf(stderr, "%s: refused with %" PRIu32 ": ", name, number);
-    return wrong("it is no case file, or a damaged one", "make it anew, as target/site does");
+    fprintf(stderr, "%s: refused with %" PRIu32 ": %s\n", name, number, shahfureel_refusal_text(number));
+    return 1;
 }
 
 static int read_case(const char *name)

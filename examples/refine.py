@@ -1,6 +1,6 @@
 # Refines the case file named on the command line by the shared library, with a budget of nodes, and prints the reply.
 import ctypes, struct, sys
-refine = ctypes.CDLL("target/libshahfureel.so").shahfureel_refine
+refine = ctypes.CDLL("libshahfureel.so.1").shahfureel_refine
 refine.restype = ctypes.c_uint32
 refine.argtypes = [ctypes.c_char_p, ctypes.c_size_t, ctypes.c_uint32, ctypes.c_char_p, ctypes.c_size_t]
 file, budget, reply = open(sys.argv[1], "rb").read(), int(sys.argv[2]), ctypes.create_string_buffer(94)

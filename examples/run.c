@@ -5,7 +5,7 @@
  * with a bar that closes. It reads the file anew each time, as a panel whose users may load another case: the run refuses that with
  * 24 and is started anew. From the repository's root, build and run it by
  *
- *     gcc -std=c99 -O2 -Iinclude -o target/run examples/run.c target/staticlib/libpanel.a
+ *     gcc -std=c99 -O2 -Iinclude -o target/run examples/run.c target/lib/libshahfureel.a
  *     target/run examples/harbour.case 200
  *
  * The status is 0, or 1 if the case cannot be taken, which standard error then explains. */
@@ -34,10 +34,8 @@ static int wrong(const char *what, const char *why)
 static int refused(const char *name, uint32_t number)
 {
     fflush(stdout); /* what was said before comes first */
-    if (number == SHAHFUREEL_NO_ALLOCATION)
-        return wrong(name, "refused with 11: these units cannot cover the case's own demand: lower it, or widen what they give");
-    fprintf(stderr, "%s: refused with %" PRIu32 ": ", name, number);
-    return wrong("it is no case file, or a damaged one", "make it anew, as target/site does");
+    fprintf(stderr, "%s: refused with %" PRIu32 ": %s\n", name, number, shahfureel_refusal_text(number));
+    return 1;
 }
 
 static int read_case(const char *name)

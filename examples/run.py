@@ -3,7 +3,7 @@
 import ctypes, sys
 class Run(ctypes.Structure):  # zeros when it is made: not started
     _fields_ = [("numbers", ctypes.c_uint64 * 41), ("held", ctypes.c_uint8 * 1608)]
-library = ctypes.CDLL("target/libshahfureel.so")
+library = ctypes.CDLL("libshahfureel.so.1")
 start, advance, ask = library.shahfureel_run_start, library.shahfureel_run_advance, library.shahfureel_run_ask
 start.restype = advance.restype = ask.restype = ctypes.c_uint32
 numbers, held = ctypes.POINTER(ctypes.c_uint64), ctypes.POINTER(ctypes.c_uint8)

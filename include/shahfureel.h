@@ -45,11 +45,11 @@
  *             return 0;
  *         }
  *
- * Compile it with  gcc -Iinclude program.c target/staticlib/libpanel.a  (docs/C.md says how the library is made).
- * This header and libpanel.a are all that is needed: both may be copied to a machine without the toolchain, if that is x86-64
- * with Linux's calling convention. The header is C99 and C++.
+ * Compile it with  gcc program.c $(pkg-config --cflags --libs shahfureel)  where the library is installed (tools/install; docs/C.md
+ * says how, and how to do without). This header and libshahfureel.a or libshahfureel.so are all that is needed: they may be copied
+ * to a machine without the toolchain, if that is x86-64 with Linux's calling convention. The header is C99 and C++.
  *
- * What each call promises, for every input:
+ * What each call promises, for every input (proved of all of them but the few that say otherwise):
  *   - it returns, and reads and writes nothing outside the buffers that it is lent;
  *   - a refusal leaves every lent buffer as it was;
  *   - otherwise only the start of an output buffer is written, as far as the call says; the rest is untouched;
@@ -59,9 +59,10 @@
  *     takes up to 3 kB more, when the loader looks up memset or, for the start of a run, memcpy (seen, not proved).
  * What the caller must ensure (nothing in C can check it):
  *   - each pointer is valid for its length or room, and lists of numbers are aligned for their type;
- *   - LENGTHS AND ROOM OF LISTS COUNT NUMBERS, NOT BYTES: rows_length, rows_room, outputs_length, demands_length, floors_room,
- *     answers_room; histories_room counts records. For an array that is `sizeof rows / sizeof rows[0]`; a bare `sizeof rows`
- *     lets the call pass the array's end. Files, replies, requests, the view's answer, the day's trace and cost rows count bytes;
+ *   - LENGTHS AND ROOM OF LISTS COUNT NUMBERS, NOT BYTES: rows_length, rows_room, b1_length, outputs_length, demands_length,
+ *     floors_room, answers_room; histories_room counts records. For an array that is `sizeof rows / sizeof rows[0]`; a bare
+ *     `sizeof rows` lets the call pass the array's end. Files, replies, requests, the view's answer, the day's trace and cost rows
+ *     count bytes;
  *   - a length or room is at most PTRDIFF_MAX bytes, and a pointer is not null, also where the length is 0;
  *   - an output buffer overlaps no other buffer of the same call.
  * A `..._length` is the exact length of an input: a case file's length is what packing returned or what was read, not the size of
@@ -76,6 +77,12 @@
 #ifdef __cplusplus
 extern "C" {
 #endif
+
+/* ---- the version of this header. The first number changes where a program must be changed or compiled anew; the second with each
+ * request that lands: more calls and numbers, and, where docs/CHANGES.md says so, other answers; the third with all else. The
+ * library that a program is linked with, or has loaded, says its own by shahfureel_version. */
+
+#define SHAHFUREEL_VERSION "1.14.0"
 
 /* ---- sizes */
 
@@ -98,7 +105,8 @@ extern "C" {
 #define SHAHFUREEL_MULTIPLIER_MAX 65536u     /* hundredths of the currency per MWh */
 #define SHAHFUREEL_DEMAND_MAX 320000u        /* steps of 0.1 MW */
 #define SHAHFUREEL_RAMP_UNLIMITED 10000u     /* as up or down: no ramp limit that way */
-#define SHAHFUREEL_LENGTH_MIN 30u            /* shahfureel_dispatch, _refine and _pack: an answer below this is a refusal */
+#define SHAHFUREEL_B1_MAX 10000000           /* a b1 lies from -SHAHFUREEL_B1_MAX to SHAHFUREEL_B1_MAX */
+#define SHAHFUREEL_LENGTH_MIN 30u            /* shahfureel_dispatch, _refine, _pack and _pack2: an answer below this is a refusal */
 #define SHAHFUREEL_VIEW_REQUEST_BYTES 5u     /* a Modbus request: function, start and quantity */
 #define SHAHFUREEL_VIEW_ANSWER_BYTES 252u    /* a buffer for a Modbus answer has at least as many bytes */
 #define SHAHFUREEL_GENCOST_BYTES_MAX 256u    /* no cost row that is read has more bytes */
@@ -109,6 +117,7 @@ extern "C" {
 #define SHAHFUREEL_STACK_DISPATCH 3840u
 #define SHAHFUREEL_STACK_PRICE 3584u
 #define SHAHFUREEL_STACK_PACK 512u
+#define SHAHFUREEL_STACK_PACK2 512u
 #define SHAHFUREEL_STACK_UNPACK 768u
 #define SHAHFUREEL_STACK_VIEW 256u
 #define SHAHFUREEL_STACK_JUDGE 3840u
@@ -120,15 +129,15 @@ extern "C" {
 #define SHAHFUREEL_STACK_GENCOST 512u
 #define SHAHFUREEL_REFINE_STACK_BYTES 131072u /* it calls itself, up to 161 calls deep */
 
-/* ---- editions of the case file. Edition 1 is what shahfureel_pack writes and shahfureel_unpack reads. In edition 2 each unit
- * also has b1, a linear loss, from -10,000,000 to 10,000,000: at output p the unit loses b1 * p hundred-millionths of a step
- * more. It is a B0 coefficient times 100,000,000, and may be negative. Edition 1 is read as b1 = 0. shahfureel_dispatch,
- * shahfureel_price, shahfureel_judge, shahfureel_floors, shahfureel_day, shahfureel_refine and runs take both editions.
+/* ---- editions of the case file. Edition 1 is what shahfureel_pack writes and shahfureel_unpack reads. In edition 2, which
+ * shahfureel_pack2 writes, each unit also has b1, a linear loss, from -10,000,000 to 10,000,000: at output p the unit loses b1 * p
+ * hundred-millionths of a step more. It is a B0 coefficient times 100,000,000, and may be negative. Edition 1 is read as b1 = 0.
+ * shahfureel_dispatch, shahfureel_price, shahfureel_judge, shahfureel_floors, shahfureel_day, shahfureel_refine and runs take both
+ * editions.
  *
- * To make a file of edition 2: edition2_pack of examples/edition2.h and edition2.c takes rows as shahfureel_pack does, and a b1
- * for each. By hand, from the bytes that shahfureel_pack wrote: the first field becomes 2; into each body, behind its byte 25,
- * go the 4 bytes of b1, big-endian in two's complement, (uint32_t)b1; each length in the contents grows by 4, and the offset of
- * unit i, counted from 0, by 4 * i. Keep b1 + 19,999 * b below 100,000,000, or the unit is refused with 18. */
+ * To make a file of edition 2 by hand, from the bytes that shahfureel_pack wrote: the first field becomes 2; into each body, behind
+ * its byte 25, go the 4 bytes of b1, big-endian in two's complement, (uint32_t)b1; each length in the contents grows by 4, and the
+ * offset of unit i, counted from 0, by 4 * i. Keep b1 + 19,999 * b below 100,000,000, or the unit is refused with 18. */
 
 /* ---- a row: the place of each number. Unit i of a list, counted from 0, starts at rows[SHAHFUREEL_ROW_NUMBERS * i].
  *
@@ -332,12 +341,14 @@ static inline uint64_t shahfureel_slot_gap(const uint8_t *trace, size_t slot)
  * The first that applies is given: dispatch 1 to 6, unit by unit 7, 8, 18, 9, 10, then 11; pricing 14, 1, then as dispatch from
  * 2 on; judging as dispatch, then 19; floors 1, 20, 21, then as dispatch from 2 on; the day 1, 22, 23, then as dispatch from 2 on
  * but never 11; refining 1, 25, then as dispatch from 2 on; starting a run as dispatch from 2 on, advancing it 1, then 24, asking
- * it 1; unpacking 1 to 6, unit by unit 7 to 10; packing 12, 5, row by row 7 to 10, then 13; the view 1, 15, 16, 17; a cost row 1,
- * 26, 27, 28. (Behind 24 an advance checks the file once more, as dispatch does from 2 on. Of a run that a start has begun it finds
- * nothing.)
+ * it 1; unpacking 1 to 6, unit by unit 7 to 10; packing 12, 5, row by row 7 to 10, then 13; packing edition 2 the same, with 18
+ * between 8 and 9; the view 1, 15, 16, 17; a cost row 1, 26, 27, 28. (Behind 24 an advance checks the file once more, as dispatch
+ * does from 2 on. Of a run that a start has begun it finds nothing.)
  *
- * 7 to 10 from packing: to find the row, pack the rows one by one, each as a list of its 19 numbers with demand 0. The row that
- * is refused is the one. From a call on a file: a file that packing has written is never refused with 2 to 10 or 18, if it is
+ * shahfureel_refusal_text has a sentence for each number, to show beside it. More on some of them:
+ *
+ * 7 to 10 and 18 from packing: to find the row, pack the rows one by one, each as a list of its 19 numbers with demand 0. The row
+ * that is refused is the one. From a call on a file: a file that packing has written is never refused with 2 to 10 or 18, if it is
  * passed with its exact length; so another program has made this one, or it was damaged.
  *
  * 3 from unpacking, for a file that dispatch takes: it is of edition 2, and a row has no place for b1.
@@ -370,7 +381,8 @@ enum shahfureel_refusal {
                                                 may start where the one before ends */
     SHAHFUREEL_RAMP_OR_MARK_OUT_OF_RANGE = 10, /* previous, up or down above 10,000, or a mark that is not 0 or 1 */
     SHAHFUREEL_NO_ALLOCATION = 11,           /* no permitted outputs cover the demand after losses: see above */
-    SHAHFUREEL_ROWS_INVALID = 12,            /* rows_length is 0, above 608, or not 19 to a unit: does it count numbers? */
+    SHAHFUREEL_ROWS_INVALID = 12,            /* rows_length is 0, above 608, or not 19 to a unit: does it count numbers? Or
+                                                b1_length is not one to a row */
     SHAHFUREEL_FILE_BUFFER_TOO_SHORT = 13,   /* lend a file buffer of SHAHFUREEL_FILE_BYTES_MAX bytes */
     SHAHFUREEL_MULTIPLIER_OUT_OF_RANGE = 14, /* the multiplier is above 65,536 */
     SHAHFUREEL_REPLY_MALFORMED = 15,         /* the reply is not 28 + 2 * units bytes, units 1 to 32: was its room passed, or is it
@@ -417,6 +429,18 @@ uint32_t shahfureel_price(const uint8_t *file, size_t file_length, uint32_t mult
  * file_length of the other calls, and writes the file; or returns a refusal, which is below SHAHFUREEL_LENGTH_MIN. (rows_length
  * counts numbers, 19 to a unit; file_room counts bytes, and 1,480 are always enough.) */
 uint32_t shahfureel_pack(uint32_t demand, const uint32_t *rows, size_t rows_length, uint8_t *file, size_t file_room);
+
+/* Packs a demand, rows and a b1 for each row into a case file of edition 2: units whose losses have a linear part. Returns the
+ * file's length, at most SHAHFUREEL_FILE_BYTES_MAX, and writes the file; or returns a refusal, which is below
+ * SHAHFUREEL_LENGTH_MIN, and writes nothing.
+ *   - b1[i] is that of the unit whose row starts at rows[SHAHFUREEL_ROW_NUMBERS * i]; it may be negative, where running the unit
+ *     takes load off the lines of others. With b1 of 0 the unit is as in edition 1.
+ *   - It refuses as shahfureel_pack does, with 12 also where b1 has not one number to a row, and with 18 for losses.
+ *   - What it writes is never refused with 2 to 10 or 18 by the calls that read both editions, and they read exactly the demand, the
+ *     rows and the b1 that were packed (proved). shahfureel_unpack refuses it with 3.
+ * (rows_length and b1_length count numbers, 19 and 1 to a unit; file_room counts bytes, and 1,608 are always enough.) */
+uint32_t shahfureel_pack2(uint32_t demand, const uint32_t *rows, size_t rows_length, const int32_t *b1, size_t b1_length,
+                          uint8_t *file, size_t file_room);
 
 /* Unpacks a case file of edition 1; one of edition 2 is refused with 3. Returns 0 and writes 19 numbers to a unit into rows,
  * and answers[0], the demand, and answers[1], the number of units; or returns a refusal. (rows_room and answers_room count
@@ -543,6 +567,17 @@ uint32_t shahfureel_refine(const uint8_t *file, size_t file_length, uint32_t bud
  * The text is only read, and need not end with a zero byte; row_length does not count one. Answers past the third are untouched.
  * (row_length counts bytes. answers_room counts numbers: at least 3.) */
 uint32_t shahfureel_gencost(const char *row, size_t row_length, int64_t *answers, size_t answers_room);
+
+/* ---- words about the library; both are plain C, tested and not proved. What they return is never null, and stays for as long as
+ * the program runs: it is not to be freed or written. */
+
+/* A sentence for a refusal's number: what is wrong, and mostly what to do. It begins with a small letter and ends without a full
+ * stop, to stand behind a colon. For 0, and for every other number that is no refusal, the sentence says so. */
+const char *shahfureel_refusal_text(uint32_t number);
+
+/* The version of the library that this program is linked with or has loaded, such as "1.14.0". Compare it with SHAHFUREEL_VERSION,
+ * that of the header by which the program was compiled: the first number must be the same, and the library's second not smaller. */
+const char *shahfureel_version(void);
 
 /* ---- a dispatch one evaluation at a time. A screen that is not to freeze starts a run, advances it until it is finished, 18 times
  * at most, and asks in between what is found so far. docs/C.md has a whole program, examples/run.c another. These three take the

@@ -7,7 +7,6 @@
  * is 1. */
 #define _POSIX_C_SOURCE 200809L /* sys/stat.h: whether two paths are one file */
 
-#include "edition2.h"
 #include "shahfureel.h"
 
 #include <errno.h>
@@ -38,7 +37,7 @@ static const struct quantity COEFFICIENTS[LEAST] = {
     {4, 1000, "0.0001", "0.1"},
     {7, 5000, "0.0000001", "0.0005"},
 };
-static const struct quantity LINEAR_LOSS = {8, EDITION2_B1_MAX, "0.00000001", "0.1"};
+static const struct quantity LINEAR_LOSS = {8, SHAHFUREEL_B1_MAX, "0.00000001", "0.1"};
 static const struct quantity OUTPUT = {1, 10000, "0.1 MW", "1,000 MW"};
 static const struct quantity DEMAND = {1, SHAHFUREEL_DEMAND_MAX, "0.1 MW", "32,000 MW"};
 
@@ -437,7 +436,7 @@ static uint32_t dispatch(uint32_t demand, const struct site *s, size_t first, si
 {
     const uint32_t *rows = s->rows + first * SHAHFUREEL_ROW_NUMBERS;
     size_t numbers = count * SHAHFUREEL_ROW_NUMBERS;
-    r->length = s->has_b1 ? edition2_pack(demand, rows, numbers, s->b1 + first, r->file, sizeof r->file)
+    r->length = s->has_b1 ? shahfureel_pack2(demand, rows, numbers, s->b1 + first, count, r->file, sizeof r->file)
                           : shahfureel_pack(demand, rows, numbers, r->file, sizeof r->file);
     if (r->length < SHAHFUREEL_LENGTH_MIN)
         return r->length;
@@ -471,7 +470,7 @@ static void explain_row(const struct site *s, size_t i, uint32_t refusal)
         complain_of_set(s, i, "L1 + 1999.9 L is not below 1: near 1,000 MW its losses would grow as fast as its output\n");
     } else {
         complain_of_set(s, i, "");
-        fprintf(stderr, "it is refused with %" PRIu32 ": see include/shahfureel.h\n", refusal);
+        fprintf(stderr, "refused with %" PRIu32 ": %s\n", refusal, shahfureel_refusal_text(refusal));
     }
 }
 

@@ -1,7 +1,6 @@
-/* The encoder examples/edition2.c: what it writes is compared with files written out byte by byte, and on random sites with what
+/* shahfureel_pack2: what it writes is compared with files written out byte by byte, and on random sites with what
  * packing writes, turned into edition 2 as the header says; dispatch takes what it writes, and what it refuses dispatch refuses with
  * the same number. A refusal writes nothing, and nothing is written past the file. */
-#include "edition2.h"
 #include "shahfureel.h"
 
 #include <stdio.h>
@@ -33,12 +32,18 @@ static int kept_from(size_t length)
     return 1;
 }
 
-static uint32_t pack(uint32_t demand, const uint32_t *rows, size_t rows_length, const int32_t *b1, size_t room)
+static uint32_t pack_lists(uint32_t demand, const uint32_t *rows, size_t rows_length, const int32_t *b1, size_t b1_length, size_t room)
 {
     memset(file, FILLED, sizeof file);
-    uint32_t answer = edition2_pack(demand, rows, rows_length, b1, file, room);
+    uint32_t answer = shahfureel_pack2(demand, rows, rows_length, b1, b1_length, file, room);
     expect(kept_from(answer < SHAHFUREEL_LENGTH_MIN ? 0 : answer), "it writes the file and no other byte");
     return answer;
+}
+
+/* with a b1 for each row, as far as there are whole ones */
+static uint32_t pack(uint32_t demand, const uint32_t *rows, size_t rows_length, const int32_t *b1, size_t room)
+{
+    return pack_lists(demand, rows, rows_length, b1, rows_length / ROW, room);
 }
 
 static uint32_t dispatch(const uint8_t *from, size_t length, uint8_t *reply)
@@ -70,7 +75,7 @@ static const uint8_t TWO_FILE[92] = {
 
 static void by_hand(void)
 {
-    static const int32_t least[1] = {-EDITION2_B1_MAX}, unlike[2] = {0x1E2D3C, -2};
+    static const int32_t least[1] = {-SHAHFUREEL_B1_MAX}, unlike[2] = {0x1E2D3C, -2};
     uint8_t reply[SHAHFUREEL_REPLY_BYTES];
     expect(pack(5, U, ROW, least, sizeof U_FILE) == sizeof U_FILE && memcmp(file, U_FILE, sizeof U_FILE) == 0, "U's bytes");
     expect(dispatch(file, sizeof U_FILE, reply) == 30, "U is dispatched");
@@ -96,7 +101,7 @@ static void longest(void)
     uint8_t reply[SHAHFUREEL_REPLY_BYTES];
     for (int i = 0; i < 32; i++) {
         memcpy(rows + ROW * i, V, sizeof V);
-        b1[i] = 1000 * i - EDITION2_B1_MAX;
+        b1[i] = 1000 * i - SHAHFUREEL_B1_MAX;
     }
     expect(pack(0, rows, 32 * ROW, b1, LONGEST - 1) == SHAHFUREEL_FILE_BUFFER_TOO_SHORT, "1,607 bytes are 13");
     expect(SHAHFUREEL_FILE_BYTES_MAX == LONGEST && pack(0, rows, 32 * ROW, b1, LONGEST) == LONGEST, "32 units have 1,608 bytes");
@@ -159,11 +164,16 @@ static void refused_calls(void)
     static const uint32_t many[33 * ROW];
     static const int32_t none[33];
     uint32_t rows[2 * ROW];
-    int32_t excessive[2] = {0, EDITION2_B1_MAX + 1};
+    int32_t excessive[2] = {0, SHAHFUREEL_B1_MAX + 1};
     expect(pack(5, U, 0, none, LONGEST) == SHAHFUREEL_ROWS_INVALID, "no row is 12");
     expect(pack(320001, U, ROW - 1, none, LONGEST) == SHAHFUREEL_ROWS_INVALID, "18 numbers are 12, before 5");
     expect(pack(5, many, ROW + 1, none, LONGEST) == SHAHFUREEL_ROWS_INVALID, "20 numbers are 12");
     expect(pack(5, many, 33 * ROW, none, LONGEST) == SHAHFUREEL_ROWS_INVALID, "33 rows are 12");
+    expect(pack_lists(320001, U, ROW, none, 0, LONGEST) == SHAHFUREEL_ROWS_INVALID, "no b1 for a row is 12, before 5");
+    expect(pack_lists(5, U, ROW, none, 2, LONGEST) == SHAHFUREEL_ROWS_INVALID, "two b1 for a row are 12");
+    expect(pack_lists(5, many, 2 * ROW, none, 1, LONGEST) == SHAHFUREEL_ROWS_INVALID, "one b1 for two rows is 12, before 9");
+    expect(pack_lists(5, U, ROW, none, ROW, LONGEST) == SHAHFUREEL_ROWS_INVALID, "a b1 for each number of a row is 12");
+    expect(pack_lists(5, U, 0, none, 0, LONGEST) == SHAHFUREEL_ROWS_INVALID, "no row and no b1 is 12");
     expect(pack(320001, many, ROW, none, LONGEST) == SHAHFUREEL_DEMAND_OUT_OF_RANGE, "a demand of 320,001 is 5, before 9");
     expect(pack(5, many, ROW, none, 0) == SHAHFUREEL_LIMITS_INVALID, "9 comes before 13");
     expect(pack(5, U, ROW, none, 45) == SHAHFUREEL_FILE_BUFFER_TOO_SHORT, "45 bytes are 13");

@@ -3,17 +3,30 @@
 Links: each leads to a file, and its anchor to a heading or to a rule. Paths in backticks exist. Blocks: behind a command that the planner
 or a Python user types, or a program in C or Python, what stands in the next block is what it prints; a block of comma-separated values
 is one of the examples' files.
+
+With a folder behind it, that of an installed library's guides and examples, it holds docs/C.md there against the library that pkg-config
+and the loader find, and the links of the guides for callers.
 """
 import pathlib
 import re
+import shlex
+import shutil
 import subprocess
 import sys
+import tempfile
 
-ROOT = pathlib.Path(__file__).resolve().parents[2]
-GUIDES = [ROOT / "README.md", *sorted((ROOT / "docs").glob("*.md")), ROOT / "examples/README.md"]
-LINKED = [*GUIDES, *sorted((ROOT / "docs/changes").glob("*.md")), ROOT / "tests/second_solver/README.md"]
-PATH = re.compile(r"`((?:crates|docs|examples|tests|tools|include|bench|python)/[\w./-]+)`")
-COMMAND = re.compile(r"(?:target/(?:site|judge|day|floors|refine|gencost|bin/dispatch)|python3 examples/\w+\.py|od -An)\b.*")
+INSTALLED = len(sys.argv) > 1
+ROOT = pathlib.Path(sys.argv[1]) if INSTALLED else pathlib.Path(__file__).resolve().parents[2]
+if INSTALLED:
+    GUIDES = [ROOT / "docs/C.md"]
+    LINKED = [ROOT / f"docs/{name}.md" for name in ("C", "CHANGES", "FORMATS", "GLOSSARY", "MODBUS", "PLANNER")]
+    LIBRARY = "$(pkg-config --cflags --libs shahfureel)"
+else:
+    GUIDES = [ROOT / "README.md", *sorted((ROOT / "docs").glob("*.md")), ROOT / "examples/README.md"]
+    LINKED = [*GUIDES, *sorted((ROOT / "docs/changes").glob("*.md")), ROOT / "tests/second_solver/README.md"]
+    LIBRARY = "-Iinclude target/lib/libshahfureel.a"
+PATH = re.compile(r"`((?:crates|docs|examples|tests|tools|include|src|bench|python)/[\w./-]+)`")
+COMMAND = re.compile(r"(?:target/(?:site|judge|day|floors|refine|gencost|bin/dispatch)|python3 examples/\w+\.py|od -An|\./show)\b.*")
 # what a guide names although a build makes it
 MADE = ("examples/NAME",)
 
@@ -37,6 +50,7 @@ def blocks(text):
 class Checker:
     def __init__(self):
         self.complaints, self.links, self.paths, self.shown = [], 0, 0, 0
+        self.folder = pathlib.Path(tempfile.mkdtemp(dir=None if INSTALLED else ROOT / "target"))
 
     def complain(self, path, what):
         self.complaints.append(f"{path.relative_to(ROOT)}: {what}")
@@ -68,7 +82,7 @@ class Checker:
             if block.startswith(("#include", "import ")):
                 command = self.program(block)
                 continue
-            if typed or re.match(r"(rt|gcc|mbpoll|tools/|\.ci/)", last):
+            if typed or re.match(r"(rt|gcc|cc|mbpoll|export|pkg-config|tools/|tests/|\.ci/)\b", last):
                 command = typed.group(0) if typed else None
                 continue
             named = re.findall(r"`([^`]+)`", before)
@@ -83,14 +97,13 @@ class Checker:
 
     def program(self, text):
         """Keeps a program of a guide, and says how it is made and run."""
-        folder = ROOT / "target/guides-test"
-        folder.mkdir(parents=True, exist_ok=True)
+        program = shlex.quote(str(self.folder / "program"))
         if text.startswith("import"):
-            (folder / "program.py").write_text(text, encoding="utf-8")
-            return f"python3 {folder}/program.py"
-        (folder / "program.c").write_text(text, encoding="utf-8")
-        flags = "-std=c99 -Wall -Wextra -Werror -pedantic -Iinclude"
-        return f"gcc {flags} -o {folder}/program {folder}/program.c target/staticlib/libpanel.a && {folder}/program"
+            (self.folder / "program.py").write_text(text, encoding="utf-8")
+            return f"python3 {program}.py"
+        (self.folder / "program.c").write_text(text, encoding="utf-8")
+        # (evaluated: what pkg-config prints may have blanks behind backslashes)
+        return f'eval "gcc -std=c99 -Wall -Wextra -Werror -pedantic -o {program} {program}.c {LIBRARY}" && {program}'
 
     def check_file(self, path, block):
         self.shown += 1
@@ -99,6 +112,9 @@ class Checker:
 
     def check_output(self, path, command, block):
         self.shown += 1
+        show = shlex.quote(str(self.folder / "show"))
+        if command.startswith("./show"):
+            command = f'eval "gcc -o {show} examples/show.c {LIBRARY}" && {show}{command[len("./show"):]}'
         run = subprocess.run(["bash", "-c", command], cwd=ROOT, stdout=subprocess.PIPE, stderr=subprocess.STDOUT, text=True, check=False)
         if run.stdout != block:
             self.complain(path, f"{command} prints\n{run.stdout}and not\n{block}")
@@ -107,12 +123,14 @@ class Checker:
         for path in LINKED:
             self.check_links(path)
         for path in GUIDES:
-            self.check_paths(path)
+            if not INSTALLED:
+                self.check_paths(path)
             self.check_blocks(path)
+        shutil.rmtree(self.folder)
         for complaint in self.complaints:
             print(complaint)
         print(f"guides: {self.links} links, {self.paths} paths, {self.shown} blocks, {len(self.complaints)} complaints")
-        return 1 if self.complaints or not (self.links and self.paths and self.shown >= 10) else 0
+        return 1 if self.complaints or not (self.links and (self.paths or INSTALLED) and self.shown >= 10) else 0
 
 
 sys.exit(Checker().run())

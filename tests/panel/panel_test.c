@@ -1,4 +1,4 @@
-/* The panel's calls from C, by include/shahfureel.h and the static library alone. Each buffer stands between guards, each byte
+/* The panel's calls from C, by include/shahfureel.h and the library alone. Each buffer stands between guards, each byte
  * buffer from 1 to 8 bytes past an aligned address, each input in memory that ends with it; each call is made to answer and to
  * refuse with every number that it can give. The header's names are compared with bytes, and what it advises is tried. */
 #include "shahfureel.h"
@@ -1765,6 +1765,31 @@ static void packing(size_t a)
     pack_gives(5, U_ROW, ROW, a, U5_BYTES - 1, SHAHFUREEL_FILE_BUFFER_TOO_SHORT, "a buffer of 41 bytes is 13");
 }
 
+/* ---- packing edition 2; tests/edition2 has the rest */
+
+static uint32_t pack2(const int32_t *from, size_t b1_length, size_t alignment, size_t file_room)
+{
+    fill();
+    uint32_t *rows = copy_of(U_ROW, sizeof U_ROW, sizeof U_ROW[0]);
+    int32_t *b1 = copy_of(from, b1_length * sizeof from[0], sizeof from[0]);
+    uint32_t number = shahfureel_pack2(5, rows, ROW, b1, b1_length, byte_space + GUARD + alignment, file_room);
+    release("pack2", b1, from, b1_length * sizeof from[0], sizeof from[0]);
+    release("pack2", rows, U_ROW, sizeof U_ROW, sizeof U_ROW[0]);
+    return number;
+}
+
+static void packing_2(size_t a)
+{
+    static const int32_t least[2] = {-SHAHFUREEL_B1_MAX, 0}, excessive[1] = {SHAHFUREEL_B1_MAX + 1};
+    const uint8_t *file = byte_space + GUARD + a;
+    expect(pack2(least, 1, a, E2_BYTES) == E2_BYTES && memcmp(file, E2, E2_BYTES) == 0, "pack2", "U with b1, its bytes");
+    expect(bytes_kept_but(file, E2_BYTES), "pack2", "it writes the file and no other byte");
+    expect(pack2(least, 0, a, BYTES) == SHAHFUREEL_ROWS_INVALID && all_kept(), "pack2", "no b1 is 12");
+    expect(pack2(least, 2, a, BYTES) == SHAHFUREEL_ROWS_INVALID && all_kept(), "pack2", "two b1 are 12");
+    expect(pack2(excessive, 1, a, 0) == SHAHFUREEL_LOSSES_OUT_OF_RANGE && all_kept(), "pack2", "18 comes before 13");
+    expect(pack2(least, 1, a, E2_BYTES - 1) == SHAHFUREEL_FILE_BUFFER_TOO_SHORT && all_kept(), "pack2", "45 bytes are 13");
+}
+
 /* ---- unpacking */
 
 static uint32_t unpack(const uint8_t *from, size_t file_length, size_t alignment, size_t rows_room, size_t answers_room)
@@ -2054,6 +2079,21 @@ static void build_u(uint32_t *row)
     row[SHAHFUREEL_ROW_EDGES + 1] = 7;
 }
 
+/* a sentence for each refusal, no two alike, and one for all that is none; tests/panel/run compares them with docs/FORMATS.md */
+static void texts_told(void)
+{
+    const char *none = shahfureel_refusal_text(0);
+    for (uint32_t i = 1; i < 64; i++) {
+        const char *text = shahfureel_refusal_text(i);
+        expect(text[0] != '\0' && (strcmp(text, none) == 0) == (i > SHAHFUREEL_GENCOST_ABOVE_LIMIT), "refusal_text", "28 refusals");
+        for (uint32_t k = 1; k < i && i <= SHAHFUREEL_GENCOST_ABOVE_LIMIT; k++)
+            expect(strcmp(text, shahfureel_refusal_text(k)) != 0, "refusal_text", "no two are alike");
+        expect(text == shahfureel_refusal_text(i), "refusal_text", "it is always the same string");
+    }
+    expect(shahfureel_refusal_text(UINT32_MAX) == none && shahfureel_refusal_text(1u << 31) == none, "refusal_text", "no refusal");
+    expect(strcmp(shahfureel_version(), SHAHFUREEL_VERSION) == 0, "version", "library and header have one version");
+}
+
 static void sizes_named(void)
 {
     expect(SHAHFUREEL_FILE_BYTES_MAX == BYTES && SHAHFUREEL_ROWS_NUMBERS == NUMBERS, "names", "1,608 bytes, 608 numbers");
@@ -2227,6 +2267,7 @@ static void advice(void)
 
 int main(void)
 {
+    texts_told();
     sizes_named();
     rows_named();
     longest_packed();
@@ -2249,6 +2290,7 @@ int main(void)
         refining(alignment);
         reading_costs(alignment);
         packing(alignment);
+        packing_2(alignment);
         unpacking(alignment);
     }
     printf("panel: %d checks, %d failed\n", checks, failures);

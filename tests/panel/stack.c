@@ -30,6 +30,8 @@ static void nothing(void) {}
 static void dispatch(void) { reply_length = shahfureel_dispatch(file, file_length, reply, sizeof reply); }
 static void price(void) { shahfureel_price(file, file_length, 21, answers, SHAHFUREEL_ANSWERS); }
 static void pack(void) { shahfureel_pack(0, rows, units * SHAHFUREEL_ROW_NUMBERS, packed_file, sizeof packed_file); }
+static const int32_t b1[SHAHFUREEL_UNITS_MAX];
+static void pack2(void) { shahfureel_pack2(0, rows, units * SHAHFUREEL_ROW_NUMBERS, b1, units, packed_file, sizeof packed_file); }
 static void unpack(void) { shahfureel_unpack(file, file_length, rows, SHAHFUREEL_ROWS_NUMBERS, answers, SHAHFUREEL_ANSWERS); }
 static void view(void) { shahfureel_view(reply, reply_length, request, sizeof request, viewed, sizeof viewed, answers, 1); }
 static void judge(void) { shahfureel_judge(file, file_length, outputs, units, answers, SHAHFUREEL_JUDGE_ANSWERS); }
@@ -76,7 +78,7 @@ static const struct {
     {"floors", floor_list, SHAHFUREEL_STACK_FLOORS},   {"day", day, SHAHFUREEL_STACK_DAY},
     {"start", start, SHAHFUREEL_STACK_START},          {"advance", advance, SHAHFUREEL_STACK_ADVANCE},
     {"ask", ask, SHAHFUREEL_STACK_ASK},                {"refine", refine, SHAHFUREEL_REFINE_STACK_BYTES},
-    {"gencost", gencost, SHAHFUREEL_STACK_GENCOST},
+    {"gencost", gencost, SHAHFUREEL_STACK_GENCOST},    {"pack2", pack2, SHAHFUREEL_STACK_PACK2},
 };
 
 enum { CALLS = sizeof calls / sizeof calls[0] };
