@@ -472,7 +472,7 @@ uint32_t shahfureel_view(const uint8_t *reply, size_t reply_length, const uint8_
  *   - No permitted outputs that cover the demand cost less than cost - distance. For one file that is the same number for all
  *     outputs: it is cost - gap of the reply too.
  * To see why outputs are not accepted, judge them again with a demand of 0 (bytes 4 to 7 of the file): accepted, they are permitted
- * and what they net is answers[2]; else one of them is not permitted. examples/judge.c does so, and finds which.
+ * and what they net is answers[2]; else one of them is not permitted. examples/judge.c does so.
  * (outputs_length and answers_room count numbers: answers_room is at least 4.) */
 uint32_t shahfureel_judge(const uint8_t *file, size_t file_length, const uint32_t *outputs, size_t outputs_length,
                           int64_t *answers, size_t answers_room);

@@ -1,0 +1,57 @@
+"""Shahfureel from Python: a site's sets by name, in MW and money, to outputs whose distance from the best is proved.
+
+    from shahfureel import read, dispatch
+    answer = dispatch(read("examples/harbour.csv"), "23.5")
+    print(answer.outputs["diesel 2"], answer.cost, answer.bound)
+
+`library` has every call of include/shahfureel.h in steps and millionths; `site`, `table` and `answers` have what the commands are made
+of. `python3 -m shahfureel` is the command.
+"""
+
+from __future__ import annotations
+
+from pathlib import Path
+from typing import Mapping, Sequence
+
+from . import answers, table
+from .answers import Answer, Floor, Judgement, PlannedDay
+from .exact import Exact
+from .library import NoLibrary, Refusal
+from .site import Inexact, Set, Site, site_of_case, steps_of
+from .table import Faults
+
+__version__ = "1.14.0"
+__all__ = [
+    "Answer", "Exact", "Faults", "Floor", "Inexact", "Judgement", "NoLibrary", "PlannedDay", "Refusal", "Set", "Site",
+    "day", "dispatch", "floors", "judge", "read", "refine", "site_of_case",
+]  # fmt: skip
+
+
+def read(path: str | Path) -> Site:
+    """The site of a CSV file."""
+    return table.read_site(str(path), Path(path).read_bytes())[0]
+
+
+def dispatch(site: Site, demand: Exact) -> Answer:
+    """The dispatch of a site at a demand in MW. Raises Refusal, with number 11 where nothing covers it."""
+    return answers.dispatch(site, steps_of(demand))
+
+
+def refine(site: Site, demand: Exact, budget: int = 100_000) -> Answer:
+    """The best outputs found with budgets of 1, 10, 100 nodes and so on up to this one."""
+    return list(answers.refine(site, steps_of(demand), budget))[-1][1]
+
+
+def judge(site: Site, demand: Exact, outputs: Sequence[Exact] | Mapping[str, Exact]) -> Judgement:
+    """Outputs of one's own in MW, by order or by name; 0 for a set that stands."""
+    return answers.judge(site, steps_of(demand), site.outputs_of(outputs))
+
+
+def floors(site: Site, demand: Exact, demands: Sequence[Exact] | None = None) -> list[Floor]:
+    """What other demands cost at least, from the search of this one."""
+    return answers.floors(site, steps_of(demand), None if demands is None else [steps_of(other) for other in demands])
+
+
+def day(site: Site, demands: Sequence[Exact]) -> PlannedDay:
+    """A day slot by slot, each demand in MW."""
+    return answers.day(site, [(str(k), steps_of(demand)) for k, demand in enumerate(demands, 1)])
