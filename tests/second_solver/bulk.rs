@@ -1,4 +1,4 @@
-//! Compares the library's seven C calls with the second solver on fresh cases: `bulk SECONDS [SEED]`, or `bulk --case SEED` to
+//! Compares the library's seven first C calls, and packing in edition 2, with the second solver on fresh cases: `bulk SECONDS [SEED]`, or `bulk --case SEED` to
 //! repeat one case. Answers and whole buffers have to be equal, with what lies before and behind the lent parts.
 
 use second_solver::branches::Reached;
@@ -9,6 +9,7 @@ use second_solver::lent::{difference_of, random_byte, random_i64, random_u32, Le
 use second_solver::library::{
     shahfureel_dispatch, shahfureel_floors, shahfureel_judge, shahfureel_pack, shahfureel_price, shahfureel_unpack, shahfureel_view,
 };
+use second_solver::packings::Packings;
 use second_solver::program::{self, compared, refusal_or_length, Comparison};
 use second_solver::promise::{self, Floors, Judgements, Loads};
 use second_solver::random::Random;
@@ -274,6 +275,7 @@ struct Run {
     judgements: Judgements,
     floors: Floors,
     loads: Loads,
+    packings: Packings,
 }
 
 impl Run {
@@ -342,6 +344,9 @@ impl Comparison for Run {
             if by_brute_force {
                 self.check_promise(&call, number, &mut buffers)?;
             }
+            if let Call::Pack { demand, rows, .. } = &call {
+                self.packings.check(*demand, rows, &mut random)?;
+            }
             if let Call::Dispatch { file, .. } = &call {
                 if matches!(refusal(&call, number), None | Some(Refused(11))) && random.chance(2) {
                     self.check_loads(file, &mut random)?;
@@ -358,7 +363,7 @@ impl Comparison for Run {
             format!("{} dispatches, {} judgements and {} floors by brute force", dispatches, judgements, floors);
         println!("{} calls of {} cases compared, {}", self.tally.total(), self.cases, by_brute_force);
         println!("{}", self.loads.line());
-        for line in self.tally.lines().iter().chain(&self.reached.lines()) {
+        for line in self.tally.lines().iter().chain(&self.packings.lines()).chain(&self.reached.lines()) {
             println!("{}", line);
         }
     }
@@ -368,6 +373,7 @@ impl Comparison for Run {
             self.tally.assert_complete(POSSIBLE_IN_C);
             self.reached.assert_complete();
             self.loads.assert_complete();
+            self.packings.assert_complete();
         }
     }
 }

@@ -19,6 +19,7 @@ pub mod library;
 pub mod lowered;
 pub mod misread;
 pub mod outputs;
+pub mod packings;
 pub mod parted;
 pub mod program;
 pub mod promise;

@@ -7,6 +7,15 @@ extern "C" {
     pub fn shahfureel_dispatch(file: *const u8, file_length: usize, reply: *mut u8, reply_length: usize) -> u32;
     pub fn shahfureel_price(file: *const u8, file_length: usize, multiplier: u32, answers: *mut i64, answers_length: usize) -> u32;
     pub fn shahfureel_pack(demand: u32, rows: *const u32, rows_length: usize, file: *mut u8, file_length: usize) -> u32;
+    pub fn shahfureel_pack2(
+        demand: u32,
+        rows: *const u32,
+        rows_length: usize,
+        b1: *const i32,
+        b1_length: usize,
+        file: *mut u8,
+        file_length: usize,
+    ) -> u32;
     pub fn shahfureel_unpack(
         file: *const u8,
         file_length: usize,

@@ -233,7 +233,7 @@ fn row_of(unit: &Unit) -> Vec<u32> {
     row.into_iter().map(|number| number as u32).collect()
 }
 
-fn unit_of_row(row: &[u32]) -> Result<Unit, Refused> {
+fn unit_of_row(row: &[u32], b1: i32) -> Result<Unit, Refused> {
     let zone_count = row[10] as usize;
     refuse_if(zone_count > 4, 7)?;
     let (used, unused) = row[11..].split_at(2 * zone_count);
@@ -244,7 +244,7 @@ fn unit_of_row(row: &[u32]) -> Result<Unit, Refused> {
         c1: number(1),
         c2: number(2),
         b: number(3),
-        b1: 0,
+        b1: i128::from(b1),
         least: number(4),
         greatest: number(5),
         previous: number(6),
@@ -259,10 +259,19 @@ fn unit_of_row(row: &[u32]) -> Result<Unit, Refused> {
 
 /// Packs a demand and rows to a file of edition 1; the answer is the file's length.
 pub fn pack(demand: u32, rows: &[u32], file: &mut [u8]) -> Result<usize, Refused> {
-    refuse_if(rows.is_empty() || rows.len() % 19 != 0 || rows.len() > 608, 12)?;
+    pack_in(1, demand, rows, &vec![0; rows.len() / 19], file)
+}
+
+/// Packs a demand, rows and a b1 for each of them to a file of edition 2.
+pub fn pack2(demand: u32, rows: &[u32], b1: &[i32], file: &mut [u8]) -> Result<usize, Refused> {
+    pack_in(2, demand, rows, b1, file)
+}
+
+fn pack_in(edition: i128, demand: u32, rows: &[u32], b1: &[i32], file: &mut [u8]) -> Result<usize, Refused> {
+    refuse_if(rows.is_empty() || rows.len() % 19 != 0 || rows.len() > 608 || b1.len() != rows.len() / 19, 12)?;
     check_demand(i128::from(demand))?;
-    let units = rows.chunks(19).map(unit_of_row).collect::<Result<_, _>>()?;
-    let bytes = encode(&Case { edition: 1, demand: i128::from(demand), units });
+    let units = rows.chunks(19).zip(b1).map(|(row, b1)| unit_of_row(row, *b1)).collect::<Result<_, _>>()?;
+    let bytes = encode(&Case { edition, demand: i128::from(demand), units });
     refuse_if(file.len() < bytes.len(), 13)?;
     file[..bytes.len()].copy_from_slice(&bytes);
     Ok(bytes.len())
@@ -950,6 +959,10 @@ pub fn panel_dispatch(file: &[u8], reply: &mut [u8]) -> u32 {
 
 pub fn panel_pack(demand: u32, rows: &[u32], file: &mut [u8]) -> u32 {
     number_of(pack(demand, rows, file))
+}
+
+pub fn panel_pack2(demand: u32, rows: &[u32], b1: &[i32], file: &mut [u8]) -> u32 {
+    number_of(pack2(demand, rows, b1, file))
 }
 
 pub fn panel_price(file: &[u8], multiplier: u32, answers: &mut [i64]) -> u32 {

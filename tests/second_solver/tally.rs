@@ -27,6 +27,9 @@ pub const POSSIBLE_IN_C: [&[usize]; CALLS] = [
     &[1, 2, 3, 4, 5, 6, 7, 8, 9, 10, 11, 18, 20, 21],
 ];
 
+/// The numbers that packing in edition 2 can give.
+pub const POSSIBLE_OF_PACKINGS: &[usize] = &[5, 7, 8, 9, 10, 12, 13, 18];
+
 /// The numbers that the day can give in C (rules 21.1 and 21.9).
 pub const POSSIBLE_OF_DAYS: &[usize] = &[1, 2, 3, 4, 5, 6, 7, 8, 9, 10, 18, 22, 23];
 
