@@ -4,7 +4,8 @@
  *     gcc -std=c99 -O2 -Iinclude -o target/judge examples/judge.c target/lib/libshahfureel.a
  *     target/judge examples/harbour.case 100 86 0 50
  *
- * Status 0, also where the outputs are not accepted; 1 if the case is refused, whose number and sentence standard error has; 2 if a file or number cannot be read. */
+ * Status 0, also where the outputs are not accepted; 1 if the case is refused, whose number and sentence standard error has; 2 if a
+ * file or number cannot be read. */
 #include "shahfureel.h"
 
 #include <inttypes.h>

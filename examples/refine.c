@@ -30,7 +30,7 @@ static int read_case(const char *name)
     return !failed;
 }
 
-/* Reads a budget. A number past those of 32 bits becomes the greatest of them, which no call takes either. */
+/* Reads a budget. A number past those of 32 bits becomes the greatest of them, which the call does not take either. */
 static int read_budget(const char *word, uint32_t *budget)
 {
     uint64_t number = 0;
@@ -61,7 +61,8 @@ int main(int words, char **word)
     if (!read_budget(word[2], &budget) || !read_case(word[1]))
         return 2;
     /* ten times as much until the gap is 0, or fewer nodes than the budget say that the search has ended; or up to the budget */
-    uint32_t tried = budget < 1 ? budget : 1, answer = shahfureel_refine(file, file_length, tried, reply, sizeof reply);
+    uint32_t tried = budget < 1 || budget > SHAHFUREEL_BUDGET_MAX ? budget : 1;
+    uint32_t answer = shahfureel_refine(file, file_length, tried, reply, sizeof reply);
     while (answer >= SHAHFUREEL_LENGTH_MIN && tried < budget && shahfureel_refined_gap(reply) > 0 &&
            shahfureel_refined_nodes(reply) == tried) {
         tried = budget / 10 < tried ? budget : 10 * tried;

@@ -82,7 +82,7 @@ int main(int words, char **word)
     unsigned tick = 0;
     char end;
     if (words < 2 || words > 3 || (words == 3 && (sscanf(word[2], "%5u%c", &tick, &end) != 1 || tick > TICK_MAX)))
-        return wrong("usage", "run CASE_FILE [MILLISECONDS], a case file such as target/site writes with --case, and 0 to 60000");
+        return wrong("usage", "run CASE_FILE [MILLISECONDS], a case file such as shahfureel case writes, and 0 to 60000");
     struct timespec pause = {tick / 1000, tick % 1000 * 1000000L};
     int terminal = isatty(STDOUT_FILENO);
     for (int64_t state = SHAHFUREEL_NOT_STARTED; state != SHAHFUREEL_FINISHED; nanosleep(&pause, NULL)) {

@@ -24,7 +24,7 @@ static void stop(const char *what)
     exit(1);
 }
 
-/* Shows a number of so many bytes, or reads it; of 8 bytes, no reply has one above 63 bits. Returns it. */
+/* Shows a number of so many bytes, or reads it; of 8 bytes, none that is shown is above 63 bits. Returns it. */
 static int64_t pass(const char *name, size_t bytes)
 {
     char word[16];
@@ -79,13 +79,13 @@ int main(void)
     char kind[8] = "case", more;
     reading = isalpha(ungetc(getchar(), stdin));
     size_t length = reading ? (size_t)scanf("%7s", kind) : fread(file, 1, sizeof file, stdin);
-    /* a reply begins with its number of units, which its length fits; a case of edition 1 or 2 is longer than such a reply */
-    int is_reply = reading ? strcmp(kind, "reply") == 0 : length <= 92 && length == 28 + 2 * shahfureel_big_endian(file, 2);
+    /* a reply begins with its number of units, which its length fits; its amounts are in range, as those in a cut case are not */
+    int is_reply = reading ? strcmp(kind, "reply") == 0 : length <= 92 && length == 28 + 2 * shahfureel_big_endian(file, 2) &&
+        shahfureel_reply_gap(file) <= shahfureel_reply_cost(file) && shahfureel_reply_cost(file) >> 43 == 0 && shahfureel_reply_surplus(file) >> 46 == 0;
     uint32_t answer = reading || is_reply ? SHAHFUREEL_LENGTH_MIN : shahfureel_dispatch(file, length, reply, sizeof reply);
-    if (!reading)
-        printf(is_reply ? "reply" : "case");
-    else if (!is_reply && strcmp(kind, "case") != 0)
+    if (reading && !is_reply && strcmp(kind, "case") != 0)
         stop("case or reply");
+    printf("%s", reading ? "" : is_reply ? "reply" : "case");
     if (is_reply)
         pass_reply();
     else if (reading || length >= 8)

@@ -55,8 +55,9 @@
  *   - otherwise only the start of an output buffer is written, as far as the call says; the rest is untouched;
  *   - it keeps nothing between calls but what it writes into a lent run, and allocates nothing. Several threads may call at once,
  *     also on the same input, each with output buffers and runs of its own. The stack that each takes is named below,
- *     SHAHFUREEL_STACK_... and, much the greatest, SHAHFUREEL_REFINE_STACK_BYTES; in a dynamically linked program a first call
- *     takes up to 3 kB more, when the loader looks up memset or, for the start of a run, memcpy (seen, not proved).
+ *     SHAHFUREEL_STACK_... and, much the greatest, SHAHFUREEL_REFINE_STACK_BYTES; the first call of each function takes up to 3 kB
+ *     more in a dynamically linked program, when the loader looks it up, or memset or memcpy for it (seen, not proved). For a thread
+ *     add PTHREAD_STACK_MIN, and what its own functions take, to that: the thread's own part of its stack is not in these numbers.
  * What the caller must ensure (nothing in C can check it):
  *   - each pointer is valid for its length or room, and lists of numbers are aligned for their type;
  *   - LENGTHS AND ROOM OF LISTS COUNT NUMBERS, NOT BYTES: rows_length, rows_room, b1_length, outputs_length, demands_length,
@@ -347,9 +348,10 @@ static inline uint64_t shahfureel_slot_gap(const uint8_t *trace, size_t slot)
  *
  * shahfureel_refusal_text has a sentence for each number, to show beside it. More on some of them:
  *
- * 7 to 10 and 18 from packing: to find the row, pack the rows one by one, each as a list of its 19 numbers with demand 0. The row
- * that is refused is the one. From a call on a file: a file that packing has written is never refused with 2 to 10 or 18, if it is
- * passed with its exact length; so another program has made this one, or it was damaged.
+ * 7 to 10 and 18 from packing: to find the row, pack the rows one by one, each as a list of its 19 numbers with demand 0, in edition
+ * 2 by shahfureel_pack2 with its own b1. The row that is refused is the one. From a call on a file: a file that packing has written is
+ * never refused with 2 to 10 or 18, if it is passed with its exact length, but that unpacking refuses one of edition 2 with 3; so
+ * another program has made this one, or it was damaged.
  *
  * 3 from unpacking, for a file that dispatch takes: it is of edition 2, and a row has no place for b1.
  *

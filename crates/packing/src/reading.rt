@@ -45,7 +45,7 @@ fn row_numbers(row: &[u32], b1: i32) -> Unit
     }
 }
 
-// The b1 of row `i`, 0 where the list is empty.
+// The b1 of row `i`, 0 where the list has none.
 fn linear_loss(b1: &[i32], i: usize) -> i32
     ensures { λ r. ⌜ r ≡ getD (now (b1 .entry)) i (pos 0) ⌝ }
 {

@@ -71,7 +71,7 @@ priceEnds Verdict.Accepted file m =
 unfoldable pub priced : List ℕ → ℕ → Priced
 priced file m = priceEnds (priceVerdict file m) file m
 
--- ---- packing (rule 13.4): a demand, rows and, in edition 2, a b1 for each of them become a file of edition e
+-- ---- packing (rules 13.4, 13.7): a demand, rows and, in edition 2, a b1 for each of them become a file of edition e
 
 pub record PackResult : Type 0 where
   pub answer : Packed
@@ -81,7 +81,7 @@ pub record PackResult : Type 0 where
 abbrev pub fileLength : ℕ → List Unit → ℕ
 fileLength e us = 8 + 4 * length us + bodiesLength e us
 
--- by the lengths of the two lists: not one b1 for each row in edition 2, or one in edition 1; or no list of 1 to 32 rows
+-- by the lengths of the two lists: not one b1 for each row in edition 2, or any in edition 1; or no list of 1 to 32 rows
 abbrev pub rowsInvalid : ℕ → ℕ → ℕ → Bool
 rowsInvalid e l losses = not (eqb losses (inSecond e (l / 19))) || eqb l 0 || not (eqb (l % 19) 0) || ltb 608 l
 

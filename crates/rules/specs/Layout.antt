@@ -1,4 +1,4 @@
--- Rules 2.1 to 3.5 of docs/SPECIFICATION.md: the planner's row and the file's body that spell a unit, and the whole file. Fields are big-endian (`fields`). A body is laid out by the file's edition e, where it is read and where it is written.
+-- Rules 2.1 to 3.6 of docs/SPECIFICATION.md: the planner's row and the file's body that spell a unit, and the whole file. Fields are big-endian (`fields`). A body is laid out by the file's edition e, where it is read and where it is written.
 use Prim.Native.Nat.{ℕ, _+_, _*_, _/_}
 use mathlib.Core.Bool.{cond}
 use mathlib.Core.List.{List, [], _∷_, _++_, map}
@@ -33,7 +33,7 @@ unfoldable pub rowOfUnit : Unit → List ℕ
 rowOfUnit u =
     u .c0 ∷ u .c1 ∷ u .c2 ∷ u .b ∷ u .least ∷ u .greatest ∷ u .previous ∷ u .up ∷ u .down ∷ u .mark ∷ u .zoneCount ∷ u .edges
 
--- row i, counted from 0, and its unit; b1 is entry i of a list beside the rows, and 0 where the list is empty
+-- row i, counted from 0, and its unit; (rule 3.6) b1 is entry i of a list beside the rows, and 0 where it has none
 abbrev pub rowAt : List ℕ → ℕ → List ℕ
 rowAt rows i = take 19 (drop (19 * i) rows)
 

@@ -27,7 +27,7 @@ pub record LinearLossInRange (u : Unit) : Type 0 where
 abbrev pub RefusedExactlyWhereNetDoesNotRise : Type 0
 RefusedExactlyWhereNetDoesNotRise = (u : Unit) → (lossesOutOfRange u ≡ false) ↔ (LinearLossInRange u × NetRises u)
 
--- no row and no file of edition 1 meets it
+-- packing in edition 1 never meets it, nor does a file of edition 1
 abbrev pub PackingNeverMeets18 : Type 0
 PackingNeverMeets18 = (d : ℕ) (rows file : List ℕ) → packed d rows file .answer ≡ Packed.Refused LossesOutOfRange → ⊥
 

@@ -1,4 +1,4 @@
--- Rules 16.4 to 16.6 (demand 2: packing and unpacking undo each other) and 16.15 (a zone is obeyed or its file refused) of docs/SPECIFICATION.md, as statements. (They are proved in proofs/Encoding/Undo and proofs/Obeyed.) Files of edition 1 are the only ones that unpack; what is packed in edition 2 is read back as a case. The zones are those of both editions.
+-- Rules 16.4 to 16.6 and 16.27 (demand 2: packing and unpacking undo each other) and 16.15 (a zone is obeyed or its file refused) of docs/SPECIFICATION.md, as statements. (They are proved in proofs/Encoding/Undo and proofs/Obeyed.) Files of edition 1 are the only ones that unpack; what is packed in edition 2 is read back as a case. The zones are those of both editions.
 use Prim.Native.Nat.{ℕ, _+_, _*_, _/_, _≤_, _<_}
 use mathlib.Core.Bool.{false}
 use mathlib.Core.List.{List, map}

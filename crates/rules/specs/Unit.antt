@@ -14,7 +14,7 @@ pub record Unit : Type 0 where
   pub c1 : ℕ
   pub c2 : ℕ
   pub b : ℕ  -- quadratic loss coefficient: the unit's own B coefficient
-  pub b1 : ℤ  -- linear loss coefficient: the unit's B0 coefficient (since S-4); 0 in a row and in edition 1
+  pub b1 : ℤ  -- linear loss coefficient: the unit's B0 coefficient (since S-4); 0 in edition 1
   pub least : ℕ  -- limits of the running outputs
   pub greatest : ℕ
   pub previous : ℕ  -- previous output and ramp limits
@@ -43,7 +43,7 @@ withPrevious u p =
       edges = u .edges;
     }
 
--- (rule 3.5) the unit with another b1
+-- (rule 3.6) the unit with another b1
 unfoldable pub withLoss : Unit → ℤ → Unit
 withLoss u z =
     record {

@@ -1,4 +1,4 @@
--- Rule 17.4 of docs/SPECIFICATION.md: packing in edition 2, case by case: `packings` (what is written, and the last accepted and first refused b1), `packingRefusals` (each number, and the places of 18 and of the b1 list's own check in the order). Above each row stands the wrong rule that it shows.
+-- Rules 3.6, 4.3 and 13.7 of docs/SPECIFICATION.md: packing in edition 2, case by case: `packings` (what is written, and the last accepted b1), `packingRefusals` (each number, the first refused b1, and the places of 18 and of the b1 list's own check in the order). Above each row stands the wrong rule that it shows.
 use mathlib.Core.List.{List, [], _∷_, _++_}
 use mathlib.Core.Path.{refl}
 use lib.IntN.{pos, negℤ}

@@ -11,7 +11,7 @@ ghost use Rattle.unit.specs.UnitHeld.{unitHeld};
 use rules::Refusal;
 use rules::Verdict;
 
-// A unit as the nineteen numbers of a row, and b1, which is 0 in a row.
+// A unit as the nineteen numbers of a row, and b1, which stands beside the rows or is 0.
 pub struct Unit {
     pub c0: u32,
     pub c1: u32,
