@@ -11,6 +11,7 @@ import os
 import shlex
 import signal
 import sys
+import threading
 from dataclasses import replace
 from decimal import Decimal
 from types import FrameType
@@ -97,6 +98,8 @@ def site_of(path: str, data: bytes, times: int | None) -> tuple[Site, int | None
         except Refusal as refusal:
             again = "it is no case file, or a damaged one: make it anew, as the command case does"
             raise Faults([f"{spoken(path)}: {refusal}", again]) from None
+        except ValueError as fault:
+            raise Faults([f"{spoken(path)}: by --times {times} {fault}: its money was divided by a smaller number"]) from None
         return site, demand, [], True
     if times is not None:
         raise Faults([f"{spoken(path)}: --times is for a case file, whose money was divided"])
@@ -164,7 +167,8 @@ def _by_name(site: Site, words: Sequence[str], faults: list[str]) -> list[str]:
 def _command(arguments: argparse.Namespace, name: str, demand: int) -> str:
     """A command to type next, on the same site."""
     of = "SITE" if arguments.site == "-" else shlex.quote(arguments.site)
-    return f"{arguments.prog} {name} {of} {exact.shown(exact.decimal(demand, 1))}"
+    times = "" if arguments.times is None else f" --times {arguments.times}"
+    return f"{arguments.prog} {name} {of} {exact.shown(exact.decimal(demand, 1))}{times}"
 
 
 def dispatch(arguments: argparse.Namespace, given: Given) -> Report:
@@ -175,7 +179,7 @@ def dispatch(arguments: argparse.Namespace, given: Given) -> Report:
 
 
 def refine(arguments: argparse.Namespace, given: Given) -> Report:
-    demand, seen = given.needed(), sys.stderr.isatty()
+    demand, seen = given.needed(), sys.stderr is not None and sys.stderr.isatty()
     stopped = False
 
     def stop(_signal: int, _frame: FrameType | None) -> None:
@@ -193,6 +197,8 @@ def refine(arguments: argparse.Namespace, given: Given) -> Report:
                 break
         return report.refined(steps, end)
 
+    if threading.current_thread() is not threading.main_thread():  # where no signal can be taken
+        return given.covered(ask)
     before = signal.signal(signal.SIGINT, stop)
     try:
         return given.covered(ask)
@@ -342,7 +348,7 @@ def parser(prog: str) -> argparse.ArgumentParser:
     one = add("judge", "say what outputs of your own cost, or why they will not do")
     one.add_argument("--demand", metavar="MW", help=DEMAND_HELP)
     one.add_argument("outputs", metavar="OUTPUT", nargs="+", help="MW of each set in the order of the file, or NAME=MW; 0: it stands")
-    one = add("floors", "say what other demands cost at least", " Without --at: 80 to 120 %% of the demand.")
+    one = add("floors", "say what other demands cost at least", " Without --at: 80 to 120 % of the demand.")
     one.add_argument("demand", metavar="MW", nargs="?", help=DEMAND_HELP)
     one.add_argument("--at", metavar="MW", nargs="+", help="these demands instead")
     one = add("day", "plan a day slot by slot, with the ramps carried from one to the next")
@@ -370,7 +376,7 @@ def run(arguments: argparse.Namespace) -> tuple[Report, list[str]]:
 
 
 def _say(lines: Sequence[str]) -> None:
-    for line in lines:
+    for line in lines if sys.stderr is not None else ():  # print would take standard output
         print(line, file=sys.stderr)
 
 

@@ -187,6 +187,8 @@ class Site:
         object.__setattr__(self, "linear", self.linear or any(one.L1 for one in self.sets))
         if not self.money:
             object.__setattr__(self, "money", money_of(self.sets))
+        elif any(cost % self.money for one in self.sets for cost in one.costs()):
+            raise ValueError(f"{self.money} does not divide the costs of all sets exactly: leave money out, and it is found")
 
     @property
     def names(self) -> tuple[str, ...]:

@@ -8,7 +8,7 @@ could be read in two ways it is refused. Notes are what was passed over or taken
 from __future__ import annotations
 
 import re
-from dataclasses import dataclass, field
+from dataclasses import dataclass, field, replace
 from decimal import Decimal
 from typing import Callable, Iterator
 
@@ -332,7 +332,7 @@ def _check_sets(table: Table, sets: list[Set]) -> None:
     linear = "L1" in table.columns
     for one in sets:
         try:
-            Site((one,), linear, site.MONEY_MAX).pack(0)
+            Site((replace(one, **dict.fromkeys(site.COSTS, Decimal(0))),), linear).pack(0)
         except library.Refusal as refusal:
             table.faults.append(f"{one.place}: {why_refused(one, refusal)}")
     try:
