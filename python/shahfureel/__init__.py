@@ -10,6 +10,7 @@ of. `python3 -m shahfureel` is the command.
 
 from __future__ import annotations
 
+import warnings
 from pathlib import Path
 from typing import Mapping, Sequence
 
@@ -28,8 +29,11 @@ __all__ = [
 
 
 def read(path: str | Path) -> Site:
-    """The site of a CSV file."""
-    return table.read_site(str(path), Path(path).read_bytes())[0]
+    """The site of a CSV file. What was passed over or taken as it is, is told by a warning each."""
+    site, notes = table.read_site(str(path), Path(path).read_bytes())
+    for note in notes:
+        warnings.warn(f"{path}: {note}", stacklevel=2)
+    return site
 
 
 def dispatch(site: Site, demand: Exact) -> Answer:
@@ -38,7 +42,7 @@ def dispatch(site: Site, demand: Exact) -> Answer:
 
 
 def refine(site: Site, demand: Exact, budget: int = 100_000) -> Answer:
-    """The best outputs found with budgets of 1, 10, 100 nodes and so on up to this one."""
+    """The best outputs found with budgets of 1, 10, 100 nodes and so on up to this one, which is 1 to 100,000."""
     return list(answers.refine(site, steps_of(demand), budget))[-1][1]
 
 

@@ -77,6 +77,8 @@ def dispatch(site: Site, demand: int) -> Answer:
 
 def refine(site: Site, demand: int, budget_max: int = library.BUDGET_MAX) -> Iterator[tuple[int, Answer, str]]:
     """The site refined by budgets 1, 10, 100 and so on, each a call of its own: the budget, the answer, and why it is the last."""
+    if not 1 <= budget_max <= library.BUDGET_MAX:  # a search that ends earlier would not come to it
+        raise Refusal(Number.BUDGET_OUT_OF_RANGE)
     file, budget = site.pack(demand), 1
     while True:
         answer = _replied(site, demand, library.refine(file, budget))

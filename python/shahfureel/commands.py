@@ -1,7 +1,7 @@
 """The command: what is typed, which files are read, and which answer is printed.
 
-Status 0: answered. 1: refused, because nothing covers the demand, or outputs that are not accepted. 2: usage, or a file that cannot
-be read, taken or written.
+Status 0: answered. 1: refused, because nothing covers the demand (of a day: that of a slot), or outputs that are not accepted. 2:
+usage, or a file that cannot be read, taken or written.
 """
 
 from __future__ import annotations
@@ -25,6 +25,7 @@ from .site import MONEY_MAX, Set, Site, site_of_case, steps_of
 from .table import Faults
 
 SITE_HELP = "a CSV file of sets, or a case file; - is standard input"
+SHOW_HELP = "a case file, a reply of dispatch or refining, or a CSV file of sets; - is standard input"
 DEMAND_HELP = "the demand in MW, such as 23.5; a case file has its own, which this replaces"
 
 
@@ -48,6 +49,7 @@ class Given:
 
     def __init__(self, arguments: argparse.Namespace) -> None:
         self.path: str = arguments.site
+        self.command: str = arguments.command
         self.notes: list[str] = []
         faults: list[str] = []
         self.demand: int | None = None
@@ -58,7 +60,7 @@ class Given:
         try:
             self.site, own, self.notes, self.is_case = read_site(self.path, getattr(arguments, "times", None))
         except (Faults, FileFault) as fault:
-            raise Faults([*str(fault).split("\n"), *faults]) from None
+            raise Faults(_lines(fault), faults) from None
         if faults:
             raise Faults(faults)
         if self.demand is None:
@@ -72,7 +74,8 @@ class Given:
     def needed(self) -> int:
         """The demand, which must be there."""
         if self.demand is None:
-            raise Usage("a CSV file has no demand of its own: give one in MW, such as 23.5")
+            how = "as --demand 23.5" if self.command == "judge" else "such as 23.5"
+            raise Usage(f"a CSV file has no demand of its own: give one in MW, {how}")
         return self.demand
 
     def covered(self, ask: Callable[[], Report]) -> Report:
@@ -83,6 +86,16 @@ class Given:
             if refusal.number != library.Number.NO_ALLOCATION:
                 raise
             raise Refused(list(answers.why_not_covered(self.site, self.needed())), refusal.number) from None
+
+
+def _lines(fault: Faults | FileFault) -> list[str]:
+    return fault.lines if isinstance(fault, Faults) else [str(fault)]
+
+
+def _named(path: str, lines: Sequence[str]) -> list[str]:
+    """Lines on a file, each with its name."""
+    name = f"{spoken(path)}: "
+    return [line if line.startswith(name) else name + line for line in lines]
 
 
 def read_site(path: str, times: int | None = None) -> tuple[Site, int | None, list[str], bool]:
@@ -230,15 +243,32 @@ def floors(arguments: argparse.Namespace, given: Given) -> Report:
     return given.covered(lambda: report.floored(answers.floors(given.site, demand, others), len(others)))
 
 
-def day(arguments: argparse.Namespace, given: Given) -> Report:
+def day(arguments: argparse.Namespace) -> tuple[Report, list[str]]:
+    """A day of two files, of which both are read before a fault of either is told."""
     if arguments.site == arguments.demands == "-":
         raise Usage("the sets and the demands cannot both be standard input")
-    slots, notes = table.read_demands(spoken(arguments.demands), files.read(arguments.demands, table.BYTES_MAX))
-    given.notes += notes
-    return report.planned(answers.day(given.site, [(time, steps_of(mw)) for time, mw in slots]), arguments.minutes)
+    given: Given | None = None
+    slots: list[tuple[str, Decimal]] = []
+    notes: list[str] = []
+    faults: list[list[str]] = []
+    try:
+        given = Given(arguments)
+        notes += _named(arguments.site, given.notes)
+    except (Faults, FileFault) as fault:
+        faults.append(_named(arguments.site, _lines(fault)))
+    try:
+        slots, found = table.read_demands(spoken(arguments.demands), files.read(arguments.demands, table.BYTES_MAX))
+        notes += _named(arguments.demands, found)
+    except (Faults, FileFault) as fault:
+        faults.append(_named(arguments.demands, _lines(fault)))
+    if given is None or faults:
+        raise Faults(*faults)
+    return report.planned(answers.day(given.site, [(time, steps_of(mw)) for time, mw in slots]), arguments.minutes), notes
 
 
 def case(arguments: argparse.Namespace, given: Given) -> Report:
+    if arguments.file == "-":
+        raise Usage("-: a case file is not written to standard output: name a file, or ./- if it is to have this name")
     demand = given.needed()
     data = given.site.pack(demand)
     files.write(arguments.file, data, [arguments.site])
@@ -269,6 +299,8 @@ def show(arguments: argparse.Namespace) -> tuple[Report, list[str]]:
 def _show_reply(arguments: argparse.Namespace, data: bytes, units: int) -> Report:
     refining = len(data) == 30 + 2 * units
     reply = library.read_refined(data) if refining else library.read_reply(data)
+    if reply.gap > reply.cost:
+        raise Faults([f"{spoken(arguments.site)}: it is damaged, or no reply: its gap is above its cost"])
     of = read_site(arguments.of, arguments.times)[0] if arguments.of else _unknown(units, arguments.times or 1)
     if len(of.sets) != units:
         raise Faults([f"{spoken(arguments.of)}: it has {len(of.sets)} sets, and the reply {units}"])
@@ -293,7 +325,7 @@ def costs(arguments: argparse.Namespace) -> Report:
     data = files.read(arguments.rows, table.BYTES_MAX)
     if len(data) > table.BYTES_MAX:
         raise Faults([f"{spoken(arguments.rows)}: it has more than 1,000,000 bytes"])
-    rows = data.split(b"\n")
+    rows = [row.removesuffix(b"\r") for row in data.split(b"\n")]
     return gencost.report(rows[:-1] if rows[-1] == b"" else rows)
 
 
@@ -323,8 +355,8 @@ def parser(prog: str) -> argparse.ArgumentParser:
     top = argparse.ArgumentParser(
         prog=prog,
         description="Which set should give how much, what that costs, and how far from the best it is at most: proved.",
-        epilog="Status 0: answered. 1: refused, because nothing covers the demand, or outputs not accepted. 2: usage, or a file that"
-        " cannot be taken. docs/PLANNER.md is the guide.",
+        epilog="Status 0: answered. 1: refused, because nothing covers the demand (of a day: that of a slot), or outputs not accepted. 2:"
+        " usage, or a file that cannot be taken. docs/PLANNER.md is the guide.",
     )
     top.set_defaults(prog=prog)
     commands = top.add_subparsers(dest="command", required=True, metavar="COMMAND")
@@ -335,7 +367,7 @@ def parser(prog: str) -> argparse.ArgumentParser:
         form.add_argument("--json", dest="form", action="store_const", const="json", default="text", help="as JSON, numbers exact")
         form.add_argument("--csv", dest="form", action="store_const", const="csv", help="as CSV for a spreadsheet")
         if site:
-            one.add_argument("site", metavar="SITE", help=SITE_HELP)
+            one.add_argument("site", metavar="SITE", help=SHOW_HELP if name == "show" else SITE_HELP)
         if name != "gencost":
             one.add_argument("--times", type=_times, metavar="N", help="money in this case file was divided by N: multiply it again")
         return one
@@ -356,7 +388,7 @@ def parser(prog: str) -> argparse.ArgumentParser:
     one.add_argument("--minutes", type=_minutes, default=60, metavar="N", help="how long a slot is; 60 if not given")
     one = add("case", "write the case file of a site at a demand")
     one.add_argument("demand", metavar="MW", help="the demand in MW, such as 23.5")
-    one.add_argument("file", metavar="FILE", help="the file to write")
+    one.add_argument("file", metavar="FILE", help="the file to write; - is refused, since a case file is not for standard output")
     one = add("show", "say in words what a case file, a reply or a CSV file of sets holds", " --csv of a case file is a CSV file of sets.")
     one.add_argument("--of", metavar="SITE", help="of a reply: the site that it answers, for the sets' names")
     one = add("gencost", "read cost rows of a MATPOWER case as A, B and C", site=False)
@@ -370,8 +402,10 @@ def run(arguments: argparse.Namespace) -> tuple[Report, list[str]]:
         return costs(arguments), []
     if arguments.command == "show":
         return show(arguments)
+    if arguments.command == "day":
+        return day(arguments)
     given = Given(arguments)
-    commands = {"dispatch": dispatch, "refine": refine, "judge": judge, "floors": floors, "day": day, "case": case}
+    commands = {"dispatch": dispatch, "refine": refine, "judge": judge, "floors": floors, "case": case}
     return commands[arguments.command](arguments, given), given.notes
 
 
@@ -419,7 +453,7 @@ def main(words: Sequence[str] | None = None, prog: str = "shahfureel") -> int:
         return 1
     except KeyboardInterrupt:
         return 130
-    _say([f"note: {note}" for note in notes])
+    _say([f"note: {note}" for note in table.first(notes)])
     if arguments.form == "csv":
         _say(told.warnings)
     return _print(told.text(arguments.form)) or told.status

@@ -9,7 +9,7 @@ from typing import Union
 
 Exact = Union[Decimal, int, str]
 
-_NUMBER = re.compile(r"(-?)([0-9]*)(?:\.([0-9]*))?(?:[eE]([+-]?[0-9]+))?")
+_NUMBER = re.compile(r"(-?)([0-9]*)(?:\.([0-9]*))?(?:[eE]([+-]?)([0-9]+))?")
 _FAR = 10_000_000  # an exponent that no number of a site comes near
 
 
@@ -18,8 +18,9 @@ def read(text: str) -> Decimal | None:
     match = _NUMBER.fullmatch(text)
     if match is None or not (match[2] or match[3]):
         return None
-    fraction, power = match[3] or "", match[4] or "0"
-    exponent = int(power) if len(power) < 8 else -_FAR if power[0] == "-" else _FAR
+    fraction, power = match[3] or "", (match[5] or "").lstrip("0") or "0"
+    size = int(power) if len(power) < 8 else _FAR
+    exponent = -size if match[4] == "-" else size
     digits = (match[2] + fraction).lstrip("0")
     kept = digits.rstrip("0")
     if not kept:

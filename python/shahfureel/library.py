@@ -228,7 +228,19 @@ def _load(named: str | None) -> ctypes.CDLL:
         except AttributeError:
             raise NoLibrary(f"{there[0]}: it has no call shahfureel_{name}: make it anew by tools/library") from None
         call.argtypes, call.restype = types, ctypes.c_char_p if name in ("refusal_text", "version") else _U32
+    _check_version(there[0], library.shahfureel_version().decode())
     return library
+
+
+def _check_version(path: Path, found: str) -> None:
+    """Where the first number of the version differs, calls may differ from those declared here."""
+    from . import __version__ as own  # the package imports this module
+
+    if found.split(".")[0] != own.split(".")[0]:
+        raise NoLibrary(
+            f"{path}: it is of version {found}, and this package is of {own}: the first numbers must be the same. Install both from one"
+            " repository by tools/install, or make the library there by tools/library"
+        )
 
 
 def load() -> ctypes.CDLL:

@@ -97,10 +97,10 @@ def cost_cells(answer: Answer) -> list[object]:
 
 
 def surplus_warning(answer: Answer, first: str = "") -> str:
-    return (
-        f"the surplus is above 2 % of the demand: these outputs cover {shown(answer.covers)} MW; {first}give less by hand, or move load into"
-        " this interval"
-    )
+    """What can be done about a surplus; where the gap is 0 nothing is cheaper, and giving less would spare nothing."""
+    less = f"{first}give less by hand, or move load into this interval"
+    none = "no outputs that cover the demand are cheaper; load can be moved into this interval"
+    return f"the surplus is above 2 % of the demand: these outputs cover {shown(answer.covers)} MW; {less if answer.gap else none}"
 
 
 # ---- whole answers
@@ -207,7 +207,8 @@ def planned(day: PlannedDay, minutes: int) -> Report:
     lines.append(f"cost of the {'slots that are not refused' if refused else 'day'}: {'' if exactly else 'about '}{shown(spent)}")
     solved = [(slot.time, slot.answer) for slot in day.slots if slot.answer is not None]
     warnings = [f"refused: {_listed(refused)}; the cost is not that of the whole day"] if refused else []
-    gaps, surpluses = [t for t, a in solved if a.great_gap], [t for t, a in solved if a.great_surplus]
+    gaps = [t for t, a in solved if a.great_gap]
+    surpluses, best = ([t for t, a in solved if a.great_surplus and bool(a.gap) == more] for more in (True, False))
     if gaps:
         warnings.append(
             f"the gap is above 5 % in {_listed(gaps)}: other outputs may be cheaper there; write the outputs of the slot before under"
@@ -216,6 +217,11 @@ def planned(day: PlannedDay, minutes: int) -> Report:
     if surpluses:
         warnings.append(
             f"the surplus is above 2 % of the demand in {_listed(surpluses)}: give less by hand there, or move load into these slots"
+        )
+    if best:
+        warnings.append(
+            f"the surplus is above 2 % of the demand in {_listed(best)}, where no outputs that cover the demand are cheaper; load can be"
+            " moved into these slots"
         )
     body = {
         "slots": [_slot_json(slot) for slot in day.slots],

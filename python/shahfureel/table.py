@@ -10,13 +10,14 @@ from __future__ import annotations
 import re
 from dataclasses import dataclass, field, replace
 from decimal import Decimal
-from typing import Callable, Iterator
+from typing import Callable, Iterator, Sequence
 
 from . import exact, library, site
 from .exact import POWER, Quantity, shown
 from .site import Set, Site
 
 BYTES_MAX = 1_000_000
+LINES_MAX = 50  # of faults or notes that are shown
 SEPARATORS = (",", ";", "\t")
 NEEDED = ("name", "A", "B", "C", "L", "least", "greatest", "previous", "up", "down", "must run", "zones")
 TITLES = {title.casefold(): title for title in (*NEEDED, "L1")}
@@ -30,15 +31,21 @@ COLUMNS = (
 )
 YES, NO = ("yes", "true", "1"), ("no", "false", "0")
 BLANKS = " \t\u00a0\u202f"
+_THOUSANDS = re.compile(r"[1-9][0-9]{0,2}[.,][0-9]{3}")
 _DATE = re.compile(r"[0-9]+[-/. ]+[^\W\d_]+.*|[^\W\d_]+[-/. ]+[0-9]+.*|[0-9]+([-/.])[0-9]+\1[0-9]+.*")
 
 
 class Faults(Exception):
-    """What is wrong with a file, line by line."""
+    """What is wrong with a file, or with several, line by line; the text has the first lines of each."""
 
-    def __init__(self, lines: list[str]) -> None:
-        self.lines = lines
-        super().__init__("\n".join(lines))
+    def __init__(self, *files: list[str]) -> None:
+        self.lines = [line for lines in files for line in lines]
+        super().__init__("\n".join(line for lines in files for line in first(lines)))
+
+
+def first(lines: Sequence[str]) -> list[str]:
+    """The first 50 lines, and how many more there are."""
+    return [*lines[:LINES_MAX], *([f"and {len(lines) - LINES_MAX} more"] if len(lines) > LINES_MAX else [])]
 
 
 class _LineFault(Exception):
@@ -64,6 +71,7 @@ class Table:
     notes: list[str] = field(default_factory=list)
     faults: list[str] = field(default_factory=list)
     comma: bool = False
+    doubtful: bool = False
 
     def value(self, line: Line, column: str) -> str:
         return line.fields[self.columns[column]] if column in self.columns else ""
@@ -187,7 +195,7 @@ def _read_header(table: Table, titles: dict[str, str]) -> None:
             if text or any(line.fields[i : i + 1] not in ([], [""]) for line in table.lines):
                 strange.append(f'{place}: there is no column "{exact.quoted(text)}"')
         elif column in table.columns:
-            doubled.append(f"{place}: column {column} is there twice")
+            doubled.append(f"{place}: {_twice(column, table.header.fields[table.columns[column]], text)}")
         else:
             table.columns[column] = i
     needed = NEEDED if "A" in titles.values() else ("MW",)
@@ -200,12 +208,20 @@ def _read_header(table: Table, titles: dict[str, str]) -> None:
     table.notes += [f"{note}: it is passed over" for note in strange]
 
 
+def _twice(column: str, one: str, other: str) -> str:
+    """That two titles are one column, by the titles as they stand where they differ."""
+    if _title(one) == _title(other):
+        return f"column {column} is there twice"
+    return f'"{exact.quoted(one)}" and "{exact.quoted(other)}" are both column {column}: give one of them another title, and it is passed over'
+
+
 # ---- numbers of a file
 
 
 def _set_comma(table: Table, columns: tuple[str, ...]) -> None:
     """Settles whether a comma in numbers is a decimal comma: never where it parts fields; not where numbers have points; and where
-    all numbers with a comma could be thousands, it is left open and each of them refused."""
+    all numbers with a comma could be thousands, it is left open and each of them refused. So are numbers with a point between
+    semicolons, where decimal commas are usual, if none has a comma and all of them could be thousands."""
     if table.separator == ",":
         return
     words = [
@@ -215,10 +231,10 @@ def _set_comma(table: Table, columns: tuple[str, ...]) -> None:
         for column in columns
         for word in re.split(r"\s+|\s*[-–—]\s*(?=[0-9])|\.\.+", table.value(line, column))
     ]
-    points = any(re.fullmatch(r"-?[0-9]*\.[0-9]+([eE][+-]?[0-9]+)?", word) for word in words)
+    points = [word for word in words if re.fullmatch(r"-?[0-9]*\.[0-9]+([eE][+-]?[0-9]+)?", word)]
     commas = [word for word in words if re.fullmatch(r"-?[0-9]*,[0-9]+([eE][+-]?[0-9]+)?", word)]
-    thousands = all(re.fullmatch(r"[1-9][0-9]{0,2},[0-9]{3}", word) for word in commas)
-    table.comma = bool(commas) and not points and not thousands
+    table.comma = bool(commas) and not points and not all(map(_THOUSANDS.fullmatch, commas))
+    table.doubtful = table.separator == ";" and not commas and all(map(_THOUSANDS.fullmatch, points))
 
 
 def _number(table: Table, text: str) -> tuple[Decimal | None, str]:
@@ -227,9 +243,11 @@ def _number(table: Table, text: str) -> tuple[Decimal | None, str]:
         if table.comma and "." not in text:
             return exact.read(text.replace(",", ".", 1)), ""
         if re.fullmatch(r"-?[0-9]*,[0-9]+", text):
-            if re.fullmatch(r"[1-9][0-9]{0,2},[0-9]{3}", text):
+            if _THOUSANDS.fullmatch(text):
                 return None, f"can be read as {text.replace(',', '')} or as {text.replace(',', '.')}: write it without a comma"
             return None, "has a comma, and other numbers of this file have a point: write all of them alike"
+    if table.doubtful and "." in text and _THOUSANDS.fullmatch(text):
+        return None, f"can be read as {text.replace('.', '')} or as {text}0: write it in one of these ways"
     return exact.read(text), ""
 
 

@@ -10,7 +10,6 @@ import pty
 import signal
 import subprocess
 import sys
-import time
 from decimal import Decimal
 from pathlib import Path
 
@@ -18,7 +17,8 @@ import model
 import pytest
 from conftest import GOOD, HEADER, ROOT
 
-from shahfureel import commands, library
+import shahfureel
+from shahfureel import NoLibrary, commands, library
 
 HARBOUR = "examples/harbour.csv"
 SHORT = (
@@ -104,8 +104,11 @@ def test_every_command_in_every_form(say, words):
     rows = list(csv.reader(io.StringIO(as_csv.out)))
     assert isinstance(told, dict) and len({len(row) for row in rows}) == 1
     if words[0] not in ("floors", "gencost"):
-        assert all(name in as_json.out or not told.get("sets", "x") or words[0] == "judge" for name in ("diesel 1", "standby"))
         assert "diesel 1" in as_csv.out and "standby" in as_csv.out
+        if told.get("accepted", True):
+            assert "diesel 1" in as_json.out and "standby" in as_json.out
+        else:  # of outputs that are not accepted JSON has the reasons
+            assert text.status == 1 and told["reasons"] and text.out == "\n".join(["not accepted", *told["reasons"], ""])
     # what is said in words is said in each form
     for words_of in told["words"]:
         assert words_of in text.out and words_of in as_csv.err
@@ -135,6 +138,20 @@ def test_great_gaps_and_surpluses_are_said(say, site):
     assert "the surplus is" not in say("dispatch", must_run, "5").out and "the surplus is above 2 %" in say("dispatch", must_run, "4.9").out
     assert "the distance is above 5 %" in say("judge", "examples/u5.csv", "--demand", "0.5", "0.8").out
     assert "the gap is still above 5 %" in say("refine", "examples/alike.csv", "5", "--budget", "1").out
+
+
+def test_a_surplus_where_nothing_is_cheaper(say, site):
+    """Where the gap is 0, refining or giving less by hand would spare nothing."""
+    cheapest = "no outputs that cover the demand are cheaper; load can be moved into this interval"
+    must_run = site("a,0,10,0,0,5.1,10,0,,,yes,")
+    for words in (["dispatch", must_run, "4.9"], ["refine", must_run, "4.9"], ["judge", must_run, "--demand", "4.9", "5.1"]):
+        said = say(*words).out
+        assert "at most so much above the best: 0.000000" in said and "by hand" not in said
+        assert said.endswith(f"the surplus is above 2 % of the demand: these outputs cover 5.1 MW; {cheapest}\n")
+    assert say("refine", "examples/u5.case").out.endswith(f"these outputs cover 0.7 MW; {cheapest}\n")
+    assert say("day", must_run, "-", stdin=b"early,4.9\nlate,6\n").out.endswith(
+        "the surplus is above 2 % of the demand in early, where no outputs that cover the demand are cheaper; load can be moved into these"
+        " slots\n")
 
 
 def test_money_is_multiplied_again(say, site):
@@ -172,8 +189,9 @@ def test_wrong_demands(say, word, message):
 
 
 def test_a_demand_is_asked_for(say):
-    for words in (["dispatch", HARBOUR], ["refine", HARBOUR], ["floors", HARBOUR], ["judge", HARBOUR, "1", "2", "3", "4"]):
-        assert say(*words) == (2, "", "a CSV file has no demand of its own: give one in MW, such as 23.5\n")
+    for command in ("dispatch", "refine", "floors"):
+        assert say(command, HARBOUR) == (2, "", "a CSV file has no demand of its own: give one in MW, such as 23.5\n")
+    assert say("judge", HARBOUR, "1", "2", "3", "4") == (2, "", "a CSV file has no demand of its own: give one in MW, as --demand 23.5\n")
     assert say("dispatch", "examples/harbour.case", "30.8") == (1, "", SHORT.format("30.8", "30.4"))
 
 
@@ -328,6 +346,35 @@ def test_days(say, tmp_path):
     assert told["cost"] == Decimal(sum(slot[1] for slot in slots)).scaleb(-6)
 
 
+def test_faults_and_notes_of_a_day_name_their_file(say, site, tmp_path):
+    sets, demands, none = site(GOOD.replace("8,2,2", "8,2.55,2")), tmp_path / "d.csv", tmp_path / "none.csv"
+    demands.write_text("time,MW\n1,x\n")
+    up, mw = f"{sets}: line 2, column up: 2.55 is not a whole number of 0.1 MW\n", f"{demands}: line 2, column MW: x {NO_NUMBER}\n"
+    missing = f"{none}: No such file or directory\n"
+    assert say("day", sets, demands) == (2, "", up + mw)
+    assert say("day", HARBOUR, demands) == (2, "", mw) and say("day", sets, "examples/harbour-day.csv") == (2, "", up)
+    assert say("day", sets, none) == (2, "", up + missing) and say("day", none, demands) == (2, "", missing + mw)
+    noted = site(GOOD + ",x", header=HEADER + ",remark", name="noted.csv")
+    said = say("day", noted, "-", stdin=b"time,MW,wind\n1,8,2\n")
+    passed = 'note: {}: line 1: there is no column "{}": it is passed over\n'
+    assert said.status == 0 and said.err == passed.format(noted, "remark") + passed.format("standard input", "wind")
+
+
+def test_no_more_than_50_lines_on_a_file(say, site, tmp_path):
+    sets, demands = site(*(f"{i},x,x{GOOD[5:]}" for i in range(30))), tmp_path / "d.csv"
+    demands.write_text("time,MW\n" + "1,x\n" * 51)
+    said = say("day", sets, demands).err.splitlines()
+    assert len(said) == 102 and said[49].startswith(f"{sets}: line 26, column B: x") and said[50] == "and 10 more"
+    assert said[51].startswith(f"{demands}: line 2") and said[101] == "and 1 more"
+    said = say("dispatch", sets, "y").err.splitlines()
+    assert len(said) == 52 and said[50:] == ["and 10 more", f"demand: y {NO_NUMBER}"]
+    demands.write_text("time,MW\n" + "1,x\n" * 50)
+    assert say("day", HARBOUR, demands).err.count("\n") == 50
+    noted = site(GOOD + ",x" * 60, header=HEADER + "".join(f",remark {k}" for k in range(60)))
+    said = say("dispatch", noted, "8").err.splitlines()
+    assert len(said) == 51 and said[50] == "note: and 10 more"
+
+
 # ---- show
 
 
@@ -346,6 +393,9 @@ def test_cost_rows(say):
         "row 5: refused with 26; it has more than 256 bytes",
     ]
     assert say("gencost", stdin=b"") == (0, "", "")
+    windows = (ROOT / "examples/gencost-rows.txt").read_bytes().replace(b"\n", b"\r\n")
+    assert say("gencost", "-", stdin=windows) == said
+    assert say("gencost", stdin=b"2 0 0 3 0 0 0\r\r\n").out == f"row 1: refused with 26; constant 0? {NO_NUMBER}\n"
 
 
 def test_show(say, tmp_path):
@@ -363,6 +413,11 @@ def test_show(say, tmp_path):
         assert said[0] == f"a reply of {kind}" and said[1] == "diesel 1 gives 10.0 MW"
         assert say("show", reply).out.splitlines()[1] == "unit 1 gives 10.0 MW"
         assert say("show", reply, "--of", "examples/u5.csv").err == "examples/u5.csv: it has 1 sets, and the reply 4\n"
+        damaged = bytearray(data)
+        damaged[-2 * 4 - 16] = 1  # the first byte of the gap
+        reply.write_bytes(damaged)
+        for more in ([], ["--json"], ["--of", HARBOUR]):
+            assert say("show", reply, *more) == (2, "", f"{reply}: it is damaged, or no reply: its gap is above its cost\n")
     for name in ("u5", "harbour", "island", "full", "full-2"):
         assert "demand" in say("show", f"examples/{name}.case").out
     assert say("show", HARBOUR, "--of", HARBOUR) == (2, "", f"{HARBOUR}: --of is for a reply, and this is none\n")
@@ -425,6 +480,14 @@ def test_files_that_cannot_be_written(say, tmp_path):
     assert say("case", "examples/mistakes.csv", "23.5", tmp_path / "a.case").status == 2 and not list(tmp_path.iterdir())
 
 
+def test_a_case_file_is_not_for_standard_output(say, tmp_path, monkeypatch):
+    monkeypatch.chdir(tmp_path)
+    said = say("case", ROOT / HARBOUR, "23.5", "-")
+    assert said == (2, "", "-: a case file is not written to standard output: name a file, or ./- if it is to have this name\n")
+    assert not list(tmp_path.iterdir())
+    assert say("case", ROOT / HARBOUR, "23.5", "./-").status == 0 and (tmp_path / "-").exists()
+
+
 def test_a_write_that_fails_leaves_the_old_file(say, tmp_path, monkeypatch):
     path = tmp_path / "a.case"
     path.write_bytes(b"old")
@@ -478,6 +541,21 @@ def test_the_library_is_missing(tmp_path):
     assert process(typed, SHAHFUREEL_LIBRARY=str(ROOT / "target/lib")).returncode == 0
 
 
+@pytest.mark.parametrize("version, taken", [("2.0.0", False), ("10.14.0", False), ("0.9.1", False), ("1.0.0", True), ("1.99.3", True)])
+def test_a_library_of_another_version(tmp_path, version, taken):
+    calls = "".join(f"int shahfureel_{name}(void) {{ return 0; }}\n" for name in library._CALLS if name != "version")
+    path = tmp_path / "other.so"
+    subprocess.run(["gcc", "-shared", "-fPIC", "-x", "c", "-o", path, "-"], check=True, text=True,
+                   input=f'{calls}const char *shahfureel_version(void) {{ return "{version}"; }}\n')
+    if taken:
+        assert library._load(str(path)).shahfureel_version() == version.encode()
+        return
+    with pytest.raises(NoLibrary) as fault:
+        library._load(str(path))
+    own = shahfureel.__version__
+    assert str(fault.value).startswith(f"{path}: it is of version {version}, and this package is of {own}: the first numbers must be the same")
+
+
 def test_refining_on_a_terminal_shows_each_budget():
     outer, inner = pty.openpty()
     done = subprocess.run([*COMMAND, "refine", HARBOUR, "23.5"], stdout=subprocess.PIPE, stderr=inner, env=ENVIRONMENT, cwd=ROOT, check=True)
@@ -507,5 +585,16 @@ def test_an_interrupt_between_two_budgets(say, monkeypatch):
 def test_usage(say):
     assert say().status == 2 and say("plan").status == 2 and say("dispatch").status == 2
     assert say("dispatch", HARBOUR, "1", "2").status == 2 and say("dispatch", "--json", "--csv", HARBOUR, "1").status == 2
+    for words in ([], ["plan"], ["dispatch"], ["refine", HARBOUR, "1", "--budget", "0"]):
+        said = say(*words)
+        assert said.status == 2 and said.out == "" and said.err.startswith("usage: python3 -m shahfureel ") and "error: " in said.err
     assert say("--help").status == 0 and commands.parser("x").prog == "x"
-    assert not Path("target/none").exists() and time.time() > 0
+
+
+def test_help_says_what_is_taken_and_returned(say):
+    def words(*typed):
+        return " ".join(say(*typed).out.split())
+
+    assert "SITE a case file, a reply of dispatch or refining, or a CSV file of sets; - is standard input" in words("show", "--help")
+    assert "1: refused, because nothing covers the demand (of a day: that of a slot), or outputs not accepted." in words("--help")
+    assert "FILE the file to write; - is refused" in words("case", "--help")

@@ -12,7 +12,7 @@ import pytest
 from conftest import ROOT
 
 import shahfureel
-from shahfureel import Refusal, library
+from shahfureel import Refusal, answers, exact, library
 
 CASES = sorted((ROOT / "examples").glob("*.case"))
 HEADER = (ROOT / "include/shahfureel.h").read_text(encoding="utf-8")
@@ -99,6 +99,19 @@ def test_calls_on_the_examples(case):
         assert in_2[1] == 2 and library.dispatch(in_2).data == reply.data
     else:
         refused(3, library.unpack, file)
+
+
+@pytest.mark.parametrize("budget", [0, -1, 100_001, 2**32 + 1])
+def test_a_budget_out_of_range_is_refused_where_the_search_ends_before_it(budget):
+    site, demand = shahfureel.site_of_case(U5)
+    assert refused(25, shahfureel.refine, site, exact.decimal(demand, 1), budget).name == "BUDGET_OUT_OF_RANGE"
+    assert refused(25, next, answers.refine(site, demand, budget))
+
+
+def test_budgets_at_their_ends():
+    site, demand = shahfureel.site_of_case(HARBOUR)
+    assert shahfureel.refine(site, exact.decimal(demand, 1), 1).nodes == 1
+    assert shahfureel.refine(site, exact.decimal(demand, 1), 100_000).nodes == 11
 
 
 def test_in_c_and_in_python():

@@ -4,10 +4,12 @@ from __future__ import annotations
 
 import csv
 import io
+import re
 from dataclasses import replace
 from decimal import Decimal
 from fractions import Fraction
 
+from conftest import GOOD, HEADER
 from hypothesis import assume, given, settings
 from hypothesis import strategies as st
 from model import day as modelled_day
@@ -159,13 +161,37 @@ def test_numbers_are_read_exactly(number, places, power, zeros):
     assert exact.units(value, 3) == int(Fraction(value) * 1000)
 
 
+SITE = f"{HEADER}\n{GOOD}\nb{GOOD[1:]}\n".encode()
+DAY = b"time,MW\n00:00,16.5\n01:00,14\n"
+NAMED = re.compile(r"line [1-9][0-9]*[:,] .+|x: it .+|the columns, with commas between: .+")
+
+
+def named(fault):
+    """That each fault has its place, and none is long."""
+    assert fault.lines and all(NAMED.fullmatch(line) and len(line) < 400 for line in fault.lines), fault.lines
+    return True
+
+
 @given(st.binary(max_size=300))
 def test_any_bytes_are_a_table_or_named_faults(data):
     for read in (table.read_site, table.read_demands):
         try:
             read("x", data)
         except Faults as fault:
-            assert fault.lines and all(fault.lines)
+            assert named(fault)
+
+
+@settings(max_examples=150)
+@given(st.integers(0, len(SITE)), st.integers(0, 3), st.binary(max_size=3) | st.sampled_from([b",", b'"', b"\n", b"\r", b"#", b".", b"-", b"9"]))
+def test_good_files_with_bytes_spoiled_are_a_table_or_named_faults(at, cut, put):
+    for good, read in ((SITE, table.read_site), (DAY, table.read_demands)):
+        place = at % (len(good) + 1)
+        try:
+            found, _ = read("x", good[:place] + put + good[place + cut :])
+        except Faults as fault:
+            assert named(fault)
+        else:
+            assert found.pack(0) if isinstance(found, Site) else found and all(exact.DEMAND.fault(mw) is None for _, mw in found)
 
 
 FIELD = st.sampled_from(
@@ -173,12 +199,23 @@ FIELD = st.sampled_from(
      "\t", ";", " ", "1" * 400, "0x1", "\u0661", "5-Mar", "1.000,5"])
 
 
-@given(st.lists(st.lists(FIELD, min_size=10, max_size=14), max_size=4), st.sampled_from(",;\t"), st.permutations(table.NEEDED))
-def test_hostile_lines_are_a_site_or_named_faults(lines, separator, columns):
-    text = "\n".join(separator.join(fields) for fields in [columns, *lines])
+@settings(max_examples=200)
+@given(st.lists(st.tuples(st.sampled_from("ab"), st.sampled_from(table.NEEDED), FIELD), min_size=1, max_size=2), st.sampled_from(",;\t"),
+       st.permutations(table.NEEDED))
+def test_a_field_or_two_spoiled_are_a_site_or_faults_of_their_lines(spoiled, separator, columns):
+    """Two good sets, of which a field or two are spoiled: what is not spoiled is read as before, and no fault is found in it."""
+    good = dict(zip(HEADER.split(","), GOOD.split(",")))
+    lines = {name: {**good, "name": name} for name in "ab"}
+    for name, column, field in spoiled:
+        lines[name][column] = field
+    text = "\n".join(separator.join(fields) for fields in [columns, *([one[column] for column in columns] for one in lines.values())])
+    touched = {name for name, _, _ in spoiled}
     try:
         site, _ = table.read_site("x", text.encode())
     except Faults as fault:
-        assert fault.lines and all(len(line) < 400 for line in fault.lines)
+        places = tuple(f"line {2 + 'ab'.index(name)}" for name in touched)
+        assert named(fault) and (all(line.startswith(places) for line in fault.lines) or fault.lines == ["x: it has no sets"])
     else:
-        assert site.pack(0)
+        assert site.pack(0) and len(site.sets) <= 2
+        whole, _ = table.read_site("x", SITE)
+        assert all(one in site.sets for one in whole.sets if one.name not in touched)

@@ -173,6 +173,10 @@ def test_headers(site):
 def test_unknown_columns_are_passed_over_with_a_note(site):
     path = site(GOOD + ",new,", header=HEADER + ",remark,")
     assert table.read_site("x", path.read_bytes())[1] == ['line 1: there is no column "remark": it is passed over']
+    with pytest.warns(UserWarning) as warned:
+        read(path)
+    assert [str(one.message) for one in warned] == [f'{path}: line 1: there is no column "remark": it is passed over']
+    assert [one.filename for one in warned] == [__file__]
 
 
 def test_33_sets(site):
@@ -225,7 +229,9 @@ def test_marks(site, word, mark):
     assert read(site(row(must_run=word))).sets[0].must_run is mark
 
 
-@pytest.mark.parametrize("word, value", [("3E-05", "0.00003"), ("3e-5", "0.00003"), ("0.3E-4", "0.00003"), ("0.00003", "0.00003")])
+@pytest.mark.parametrize("word, value", [("3E-05", "0.00003"), ("3e-5", "0.00003"), ("0.3E-4", "0.00003"), ("0.00003", "0.00003"),
+                                         ("0.00003E+0000000000", "0.00003"), ("0.000003E+0000000001", "0.00003"),
+                                         ("0.0003e-00000000000000000001", "0.00003"), ("3e-0000000005", "0.00003"), ("0.00003E00", "0.00003")])
 def test_powers_of_ten_are_read_exactly(site, word, value):
     assert read(site(row(L=word))).sets[0].L == Decimal(value)
 
@@ -265,11 +271,36 @@ def test_commas_that_can_be_read_in_two_ways(site):
     assert read(given(row(A="1|200", C="0|01", L="0", zones=""))).sets[0].A == Decimal("1.2")
 
 
+def test_points_that_can_be_read_in_two_ways(site):
+    """Between semicolons 1.200 may be 1200, unless a number of the file shows what its points are."""
+
+    def given(separator=";", **values):
+        plain = {"A": "0", "C": "0", "L": "0", "zones": "", **values}
+        return site("\n".join(line.replace(",", separator) for line in (HEADER, row(**plain))).encode())
+
+    why = "can be read as {} or as {}: write it in one of these ways"
+    assert refused(given(A="1.200")) == [f"line 2, column A: 1.200 {why.format('1200', '1.2000')}"]
+    assert refused(given(A="1.200", B="62.125", greatest="999.000", zones="4.000-5.000")) == [
+        f"line 2, column {column}: {text} {why.format(text.replace('.', ''), text + '0')}"
+        for column, text in [("A", "1.200"), ("B", "62.125"), ("greatest", "999.000"), ("zones", "4.000"), ("zones", "5.000")]]
+    assert [read(given(A=text)).sets[0].A for text in ("1200", "1.2000", "1.2", "0.200", "1.200E0")] == [
+        Decimal(text) for text in ("1200", "1.2", "1.2", "0.2", "1.2")]
+    assert read(given(A="1.200", C="0.01")).sets[0].A == Decimal("1.2")
+    for separator in (",", "\t"):
+        assert read(given(separator, A="1.200")).sets[0].A == Decimal("1.2")
+    with pytest.raises(Faults) as fault:
+        demands("00:00;1.200\n01:00;900\n")
+    assert fault.value.lines == [f"line 1, column MW: 1.200 {why.format('1200', '1.2000')}"]
+    assert demands("00:00;1.200\n01:00;9.5\n")[0] == [("00:00", "1.2"), ("01:00", "9.5")]
+    assert demands("00:00,1.200\n01:00,905\n")[0] == [("00:00", "1.2"), ("01:00", "905")]
+
+
 def test_other_bytes_than_utf_8(site):
     path = site(f"{HEADER}\nDi\u00e9sel{GOOD[1:]}\n".encode("latin-1"))
     assert table.read_site("x", path.read_bytes())[1] == [
         "line 2: it is not in UTF-8, and is read as Windows-1252: look at the names, or save the sheet in UTF-8"]
-    assert read(path).names == ("Di\u00e9sel",)
+    with pytest.warns(UserWarning, match="site.csv: line 2: it is not in UTF-8, and is read as Windows-1252"):
+        assert read(path).names == ("Di\u00e9sel",)
 
 
 # ---- costs above the limits of a case file
@@ -327,6 +358,11 @@ def test_a_demand_without_a_time_has_its_number():
     ("time,MW\n", ["d: it has no demands"]),
     ("", ["d: it has no line of columns"]),
     ("time,power\n1,2\n", ['line 1: there is no column "power"', "line 1: column MW is missing", "the columns, with commas between: time, MW"]),
+    ("date,hour,demand\n1,2,3\n", ['line 1: "date" and "hour" are both column time: give one of them another title, and it is passed over',
+                                   "the columns, with commas between: time, MW"]),
+    ("time,Load (MW),MW\n1,2,3\n", ['line 1: "Load (MW)" and "MW" are both column MW: give one of them another title, and it is passed over',
+                                    "the columns, with commas between: time, MW"]),
+    ("hour,Hour,MW\n1,2,3\n", ["line 1: column time is there twice", "the columns, with commas between: time, MW"]),
     ("time,MW\n1,x\n2,23.55\n3,-1\n4,32000.1\n5\n6,\n", [
         f"line 2, column MW: x {NO_NUMBER}",
         "line 3, column MW: 23.55 is not a whole number of 0.1 MW: the nearest are 23.5 and 23.6",
