@@ -163,7 +163,7 @@ def test_numbers_are_read_exactly(number, places, power, zeros):
 
 SITE = f"{HEADER}\n{GOOD}\nb{GOOD[1:]}\n".encode()
 DAY = b"time,MW\n00:00,16.5\n01:00,14\n"
-NAMED = re.compile(r"line [1-9][0-9]*[:,] .+|x: it .+|the columns, with commas between: .+")
+NAMED = re.compile(r"line [1-9][0-9]*[:,] .+|x: its? .+|the columns, with commas between: .+")
 
 
 def named(fault):
