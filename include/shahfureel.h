@@ -544,7 +544,7 @@ uint32_t shahfureel_day(const uint8_t *file, size_t file_length, const uint32_t 
  *     output is the dearest for each step; mostly it then ends sooner, or has a smaller gap at the same budget.
  *   - The time grows with the nodes that are evaluated; the stack and the reply do not. Most nodes are decided by what is known of
  *     the node that they are a part of; no node takes longer than a dispatch and a few evaluations more. The largest budget took 13
- *     to 20 milliseconds at 32 units (docs/PERFORMANCE.md has the time of a node). A call cannot be interrupted.
+ *     to 18 milliseconds at 32 units (docs/PERFORMANCE.md has the time of a node). A call cannot be interrupted.
  *   - The stack grows with the number of regions, up to SHAHFUREEL_REFINE_STACK_BYTES for 32 units of six regions each. A thread
  *     may have less than that by default: see to it where you make one.
  *   - That more load is never cheaper is promised of shahfureel_dispatch and not here: at one budget above 1 a higher demand may
