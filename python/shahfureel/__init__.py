@@ -14,17 +14,18 @@ import warnings
 from pathlib import Path
 from typing import Mapping, Sequence
 
-from . import answers, table
+from . import answers, planning, table
 from .answers import Answer, Floor, Judgement, PlannedDay
 from .exact import Exact
 from .library import NoLibrary, Refusal
+from .planning import Plan
 from .site import Inexact, Set, Site, site_of_case, steps_of
 from .table import Faults
 
-__version__ = "1.14.0"
+__version__ = "1.14.1"
 __all__ = [
-    "Answer", "Exact", "Faults", "Floor", "Inexact", "Judgement", "NoLibrary", "PlannedDay", "Refusal", "Set", "Site",
-    "day", "dispatch", "floors", "judge", "read", "refine", "site_of_case",
+    "Answer", "Exact", "Faults", "Floor", "Inexact", "Judgement", "NoLibrary", "Plan", "PlannedDay", "Refusal", "Set", "Site",
+    "day", "dispatch", "floors", "judge", "plan", "read", "refine", "site_of_case",
 ]  # fmt: skip
 
 
@@ -46,6 +47,11 @@ def refine(site: Site, demand: Exact, budget: int = 100_000) -> Answer:
     return list(answers.refine(site, steps_of(demand), budget))[-1][1]
 
 
+def plan(site: Site, demand: Exact, effort: int = planning.EFFORT) -> Plan:
+    """The cheapest outputs that are found, accepted by the judge, and how far above the best they are at most."""
+    return planning.plan(site, steps_of(demand), effort)
+
+
 def judge(site: Site, demand: Exact, outputs: Sequence[Exact] | Mapping[str, Exact]) -> Judgement:
     """Outputs of one's own in MW, by order or by name; 0 for a set that stands."""
     return answers.judge(site, steps_of(demand), site.outputs_of(outputs))
@@ -56,6 +62,7 @@ def floors(site: Site, demand: Exact, demands: Sequence[Exact] | None = None) ->
     return answers.floors(site, steps_of(demand), None if demands is None else [steps_of(other) for other in demands])
 
 
-def day(site: Site, demands: Sequence[Exact]) -> PlannedDay:
-    """A day slot by slot, each demand in MW."""
-    return answers.day(site, [(str(k), steps_of(demand)) for k, demand in enumerate(demands, 1)])
+def day(site: Site, demands: Sequence[Exact], planned: bool = False) -> PlannedDay:
+    """A day slot by slot, each demand in MW: dispatched, or each slot planned."""
+    slots = [(str(k), steps_of(demand)) for k, demand in enumerate(demands, 1)]
+    return planning.day(site, slots) if planned else answers.day(site, slots)

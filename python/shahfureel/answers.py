@@ -19,9 +19,9 @@ GAP_PERCENT, SURPLUS_PERCENT = 5, 2
 STEP = 100_000_000  # hundred-millionths of a step
 
 
-def percent_up(part: int, whole: int) -> Decimal:
-    """A part in percent, rounded up to hundredths."""
-    return decimal(-(-10_000 * part // whole) if whole else 0, PERCENT_PLACES)
+def percent_up(part: int, whole: int, places: int = PERCENT_PLACES) -> Decimal:
+    """A part in percent, rounded up to hundredths or to so many places; 0 of nothing."""
+    return decimal(-(-(10 ** (2 + places)) * part // whole) if whole else 0, places)
 
 
 @dataclass(frozen=True)
@@ -207,11 +207,13 @@ class PlannedSlot:
 
 @dataclass(frozen=True)
 class PlannedDay:
-    """A day's slots, how often each set is started, and the sum of the costs an hour of the slots that are not refused."""
+    """A day's slots, how often each set is started, and the sum of the costs an hour of the slots that are not refused; and from which
+    slot on the planning was stopped, if it was."""
 
     slots: tuple[PlannedSlot, ...]
     starts: dict[str, int]
     total: Decimal
+    stopped: str = ""
 
 
 def day(site: Site, slots: Sequence[tuple[str, int]]) -> PlannedDay:

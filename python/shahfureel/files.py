@@ -48,11 +48,17 @@ def same_file(first: str, second: str) -> bool:
     return one is not None and one == _identity(second)
 
 
-def write(path: str, data: bytes, inputs: Sequence[str]) -> None:
-    """Writes a file: into one beside it, which then takes its place. What is no plain file, such as a device, is written as it is."""
+def apart(path: str, inputs: Sequence[str], kind: str) -> None:
+    """Refuses to write over what is read: the file of the sets and, of a day, that of the demands."""
     for source in inputs:
         if same_file(source, path):
-            raise FileFault(path, f"the case file would replace {'the sets' if source != '-' else 'what is read'}")
+            what = "what is read" if source == "-" else "the sets" if source == inputs[0] else "the demands"
+            raise FileFault(path, f"the {kind} would replace {what}")
+
+
+def write(path: str, data: bytes, inputs: Sequence[str], kind: str = "case file") -> None:
+    """Writes a file: into one beside it, which then takes its place. What is no plain file, such as a device, is written as it is."""
+    apart(path, inputs, kind)
     try:
         target = os.path.realpath(path)
         if os.path.exists(target) and not stat.S_ISREG(os.stat(target).st_mode):

@@ -7,6 +7,7 @@ place in C becomes the largest there, which the call refuses likewise; none is c
 
 from __future__ import annotations
 
+import array
 import ctypes
 import functools
 import operator
@@ -15,6 +16,7 @@ import struct
 import threading
 from dataclasses import dataclass
 from enum import IntEnum
+from itertools import chain
 from pathlib import Path
 from typing import Any, Iterable, Sequence
 
@@ -263,8 +265,12 @@ def _u32(value: int) -> int:
 
 
 def _u32s(values: Iterable[int]) -> ctypes.Array[ctypes.c_uint32]:
-    numbers = [_u32(value) for value in values]
-    return (ctypes.c_uint32 * len(numbers))(*numbers)
+    numbers = list(values)
+    try:  # at once, where every number has its place
+        held = array.array("I", numbers)
+    except (OverflowError, TypeError):
+        held = array.array("I", [_u32(value) for value in numbers])
+    return (ctypes.c_uint32 * len(held)).from_buffer(held)
 
 
 def _bytes(data: bytes) -> bytes:
@@ -328,13 +334,13 @@ def price(file: bytes, multiplier: int) -> Priced:
 
 def pack(demand: int, rows: Sequence[Sequence[int]]) -> bytes:
     """A case file of edition 1 from a demand and rows of 19 numbers."""
-    numbers, file = _u32s(number for row in rows for number in row), _room(FILE_BYTES_MAX)
+    numbers, file = _u32s(chain.from_iterable(rows)), _room(FILE_BYTES_MAX)
     return bytes(file[: _length(load().shahfureel_pack(_u32(demand), numbers, len(numbers), file, len(file)))])
 
 
 def pack2(demand: int, rows: Sequence[Sequence[int]], b1: Sequence[int]) -> bytes:
     """A case file of edition 2 from a demand, rows of 19 numbers and a b1 for each."""
-    numbers, file = _u32s(number for row in rows for number in row), _room(FILE_BYTES_MAX)
+    numbers, file = _u32s(chain.from_iterable(rows)), _room(FILE_BYTES_MAX)
     losses = (ctypes.c_int32 * len(b1))(*(_fit(loss, -(2**31), 2**31 - 1) for loss in b1))
     return bytes(
         file[: _length(load().shahfureel_pack2(_u32(demand), numbers, len(numbers), losses, len(losses), file, len(file)))]

@@ -11,6 +11,7 @@ from typing import Sequence
 
 from .answers import Answer, Floor, Judgement, PlannedDay, PlannedSlot
 from .exact import MONEY_PLACES, POWER, decimal, shown, units
+from .planning import Plan, above_percent
 from .site import Set, Site
 from .table import NEEDED
 
@@ -106,13 +107,13 @@ def surplus_warning(answer: Answer, first: str = "") -> str:
 # ---- whole answers
 
 
-def dispatched(answer: Answer, refine_by: str) -> Report:
-    """A dispatch; `refine_by` is the command that refines it."""
+def dispatched(answer: Answer, plan_by: str) -> Report:
+    """A dispatch; `plan_by` is the command that looks for cheaper outputs."""
     warnings = []
     if answer.great_gap:
-        warnings.append(f"the gap is above 5 %: other outputs may be cheaper; to look for them: {refine_by}")
+        warnings.append(f"the gap is above 5 %: other outputs may be cheaper; to look for them: {plan_by}")
     if answer.great_surplus:
-        warnings.append(surplus_warning(answer, "refine, "))
+        warnings.append(surplus_warning(answer, "plan, "))
     rows: list[list[object]] = [[*COST_TITLES, *answer.outputs], [*cost_cells(answer), *answer.outputs.values()]]
     return Report([*output_lines(answer), *cost_lines(answer)], answer_json(answer), rows, warnings)
 
@@ -130,8 +131,7 @@ def refined(steps: Sequence[tuple[int, Answer]], why: str) -> Report:
     budget, best = steps[-1]
     warnings = []
     if best.great_gap:
-        more = "put the dearest sets first in the file, or mark as must run what is to run (docs/PLANNER.md, A smaller gap)"
-        warnings.append(f"the gap is still above 5 %: {more}")
+        warnings.append("the gap is still above 5 %: the command plan looks further")
     if best.great_surplus:
         warnings.append(surplus_warning(best))
     lines = [refined_head(), *(refined_line(*step) for step in steps), why, *output_lines(best), *cost_lines(best)]
@@ -156,16 +156,64 @@ def judged(judgement: Judgement, names: Sequence[str], given: Sequence[object]) 
     compared = "as much" if not difference else f"{shown(abs(difference))} {'more' if difference > 0 else 'less'}"
     warnings = []
     if answer.great_gap:
-        warnings.append("the distance is above 5 %: other outputs may be cheaper; refining looks for them")
+        warnings.append("the distance is above 5 %: other outputs may be cheaper; the command plan looks for them")
     if answer.great_surplus:
         warnings.append(surplus_warning(answer))
     lines = [*output_lines(answer), *cost_lines(answer, "distance")]
     lines.append(f"dispatch's own outputs cost {shown(own.cost)}: {compared}")
     body = {"accepted": True, **answer_json(answer, "distance"), "dispatch_cost_an_hour": own.cost}
-    titles = ["distance" if title == "gap" else "distance %" if title == "gap %" else title for title in COST_TITLES]
-    rows = [["accepted", *titles, "dispatch's cost an hour", *answer.outputs]]
+    rows = [["accepted", *_titles("distance"), "dispatch's cost an hour", *answer.outputs]]
     rows.append([True, *cost_cells(answer), own.cost, *answer.outputs.values()])
     return Report(lines, body, rows, warnings)
+
+
+def planned(plan: Plan) -> Report:
+    """A plan, with dispatch's own reply beside it."""
+    answer, own = plan.answer, plan.dispatched
+    rows = [
+        ("", "plan", "dispatch"),
+        *((name, _given(mw), _given(own.outputs[name])) for name, mw in answer.outputs.items()),
+        ("cost an hour", shown(answer.cost), shown(own.cost)),
+        ("surplus, MW", shown(answer.surplus), shown(own.surplus)),
+        ("nobody covers this demand for less than", shown(answer.bound), shown(own.bound)),
+        ("at most so much above the best", shown(answer.gap), shown(own.gap)),
+        ("in percent of the bound", *("-" if part is None else shown(part) for part in map(above_percent, (answer, own)))),
+    ]
+    widths = [max(len(row[k]) for row in rows) for k in range(3)]
+    lines = [f"{a:<{widths[0]}}  {b:>{widths[1]}}  {c:>{widths[2]}}" for a, b, c in rows]
+    warnings = [surplus_warning(answer)] if answer.great_surplus else []
+    body = {
+        **answer_json(answer, "above_best"),
+        "above_best_percent": plan.above_percent,
+        "bounds": {
+            "judged": plan.bound_judged,
+            "refined": plan.bound_refined,
+            **({"parts": answer.bound, "number_of_parts": plan.parts} if plan.parts > 1 else {}),
+        },
+        "end": plan.end,
+        "nodes": plan.nodes,
+        "dispatch": answer_json(own),
+        "refined": answer_json(plan.refined),
+    }
+    table: list[list[object]] = [[*_titles("above the best"), "dispatch's cost an hour", "refined cost an hour", *answer.outputs]]
+    cells = [answer.demand, answer.cost, answer.gap, plan.above_percent, answer.bound, answer.surplus]
+    table.append([*cells, own.cost, plan.refined.cost, *answer.outputs.values()])
+    return Report([*lines, _bounds(plan), plan.end], body, table, warnings)
+
+
+def _titles(gap: str) -> list[str]:
+    """The titles of costs, with another word for the gap."""
+    return [title.replace("gap", gap) for title in COST_TITLES]
+
+
+def _given(mw: Decimal) -> str:
+    return f"{shown(mw)} MW" if mw else "stands"
+
+
+def _bounds(plan: Plan) -> str:
+    """Which call proved which bound."""
+    own = f"{shown(plan.bound_judged)} by judging, {shown(plan.bound_refined)} by refining"
+    return f"the bound is {own}" + (f", {shown(plan.answer.bound)} by refining {plan.parts} parts" if plan.parts > 1 else "")
 
 
 def floored(floors: Sequence[Floor], asked: int) -> Report:
@@ -187,8 +235,8 @@ def floored(floors: Sequence[Floor], asked: int) -> Report:
     return Report(lines, {"floors": body}, rows)
 
 
-def planned(day: PlannedDay, minutes: int) -> Report:
-    """A day slot by slot."""
+def day_planned(day: PlannedDay, minutes: int, dispatched: PlannedDay | None = None) -> Report:
+    """A day slot by slot; of one whose slots are planned, what it costs dispatched."""
     names = list(day.starts)
     width = max([4, *(len(slot.time) for slot in day.slots)])
     widths = [max(6, len(name)) for name in names]
@@ -205,15 +253,17 @@ def planned(day: PlannedDay, minutes: int) -> Report:
     refused = [slot.time for slot in day.slots if slot.answer is None]
     spent, exactly = _share(day.total, minutes)
     lines.append(f"cost of the {'slots that are not refused' if refused else 'day'}: {'' if exactly else 'about '}{shown(spent)}")
+    beside, unlike = _beside(day, dispatched, minutes) if dispatched is not None else ("", "")
+    lines += [beside] if beside else []
     solved = [(slot.time, slot.answer) for slot in day.slots if slot.answer is not None]
     warnings = [f"refused: {_listed(refused)}; the cost is not that of the whole day"] if refused else []
+    warnings += [unlike] if unlike else []
+    warnings += [f"stopped: from {day.stopped} on little was searched"] if day.stopped else []
     gaps = [t for t, a in solved if a.great_gap]
     surpluses, best = ([t for t, a in solved if a.great_surplus and bool(a.gap) == more] for more in (True, False))
     if gaps:
-        warnings.append(
-            f"the gap is above 5 % in {_listed(gaps)}: other outputs may be cheaper there; write the outputs of the slot before under"
-            " previous, and refine it"
-        )
+        more = "let it search longer with --effort" if dispatched else "with --plan they are looked for"
+        warnings.append(f"the gap is above 5 % in {_listed(gaps)}: other outputs may be cheaper there; {more}")
     if surpluses:
         warnings.append(
             f"the surplus is above 2 % of the demand in {_listed(surpluses)}: give less by hand there, or move load into these slots"
@@ -229,6 +279,7 @@ def planned(day: PlannedDay, minutes: int) -> Report:
         "minutes": minutes,
         "cost": spent,
         "cost_is_exact": exactly,
+        **({} if dispatched is None else {"dispatched": day_planned(dispatched, minutes).json}),
     }
     rows: list[list[object]] = [["time", *COST_TITLES, *names, "refused"]]
     for slot in day.slots:
@@ -238,7 +289,22 @@ def planned(day: PlannedDay, minutes: int) -> Report:
             rows.append([slot.time, *cost_cells(slot.answer), *slot.answer.outputs.values(), ""])
     rows.append(["starts", *[None] * 6, *day.starts.values(), None])
     rows.append(["cost", None, spent, *[None] * (5 + len(names))])
+    if dispatched is not None:
+        rows.append(["cost dispatched", None, _share(dispatched.total, minutes)[0], *[None] * (5 + len(names))])
     return Report(lines, body, rows, warnings, 1 if refused else 0)
+
+
+def _beside(day: PlannedDay, dispatched: PlannedDay, minutes: int) -> tuple[str, str]:
+    """What the day costs dispatched slot by slot; and where other slots are refused so, which. No claim is made for a day as a whole:
+    what one slot saves another may cost."""
+    spent, exactly = _share(dispatched.total, minutes)
+    said = f"dispatched slot by slot it costs {'' if exactly else 'about '}{shown(spent)}"
+    other = [b.time for a, b in zip(day.slots, dispatched.slots) if (a.answer is None) != (b.answer is None)]
+    if other:
+        return said, f"the two costs are not of the same slots: {_listed(other)} is refused in one of them and not in the other"
+    difference = spent - _share(day.total, minutes)[0]
+    compared = "as much" if not difference else f"{shown(abs(difference))} {'more' if difference > 0 else 'less'}"
+    return f"{said}: {compared}", ""
 
 
 def _slot_json(slot: PlannedSlot) -> dict[str, object]:

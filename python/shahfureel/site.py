@@ -207,6 +207,11 @@ class Site:
             return library.pack2(demand, rows, [LINEAR_LOSS.units(one.L1) for one in self.sets])
         return library.pack(demand, rows)
 
+    def after(self, outputs: Sequence[int]) -> Site:
+        """The site with these outputs, in steps, as the previous ones."""
+        sets = (replace(one, previous=decimal(steps, POWER.places)) for one, steps in zip(self.sets, outputs))
+        return replace(self, sets=tuple(sets))
+
     def alone(self, place: int) -> Site:
         """The site of one of its sets."""
         return replace(self, sets=(self.sets[place],))

@@ -129,8 +129,8 @@ def test_a_refusal_as_json(say):
 def test_great_gaps_and_surpluses_are_said(say, site):
     said = say("dispatch", "examples/alike.csv", "25").out.splitlines()[-2:]
     assert said == [
-        "the gap is above 5 %: other outputs may be cheaper; to look for them: python3 -m shahfureel refine examples/alike.csv 25.0",
-        "the surplus is above 2 % of the demand: these outputs cover 29.9 MW; refine, give less by hand, or move load into this interval",
+        "the gap is above 5 %: other outputs may be cheaper; to look for them: python3 -m shahfureel plan examples/alike.csv 25.0",
+        "the surplus is above 2 % of the demand: these outputs cover 29.9 MW; plan, give less by hand, or move load into this interval",
     ]
     assert "above" not in say("dispatch", "examples/alike.csv", "29.9").out.replace("above the best", "")
     # exactly 2 % is not above
