@@ -2,6 +2,9 @@
 
 import sys
 
-from .commands import main
+try:
+    from .commands import main
 
-sys.exit(main(prog="python3 -m shahfureel"))
+    sys.exit(main(prog="python3 -m shahfureel"))
+except KeyboardInterrupt:  # while it is still being loaded
+    sys.exit(130)

@@ -3,6 +3,7 @@
 from __future__ import annotations
 
 import argparse
+import re
 
 from . import exact, library, matpower, planning
 from .site import MONEY_MAX
@@ -21,16 +22,21 @@ def _minutes(word: str) -> int:
     return int(word)
 
 
+def _whole(word: str) -> int:
+    """A whole number, with commas between its thousands or without; 0 for what is none, or is too long."""
+    return int(word.replace(",", "")) if len(word) < 20 and re.fullmatch(r"[0-9]+|[0-9]{1,3}(,[0-9]{3})+", word) else 0
+
+
 def _budget(word: str) -> int:
-    if not word.isascii() or not word.isdigit() or len(word) > 9 or not 1 <= int(word) <= library.BUDGET_MAX:
+    if not 1 <= _whole(word) <= library.BUDGET_MAX:
         raise argparse.ArgumentTypeError(f"{word} is not a budget from 1 to 100,000")
-    return int(word)
+    return _whole(word)
 
 
 def _effort(word: str) -> int:
-    if not word.isascii() or not word.isdigit() or len(word) > 10 or not 1 <= int(word) <= EFFORT_MAX:
-        raise argparse.ArgumentTypeError(f"{word} is not an effort from 1 to {exact.grouped(EFFORT_MAX)}")
-    return int(word)
+    if not 1 <= _whole(word) <= EFFORT_MAX:
+        raise argparse.ArgumentTypeError(f"{word} is not an effort from 1 to {exact.grouped(EFFORT_MAX)}, a whole number")
+    return _whole(word)
 
 
 def _times(word: str) -> int:

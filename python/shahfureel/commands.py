@@ -141,6 +141,7 @@ def day(arguments: argparse.Namespace) -> tuple[Report, list[str]]:
         faults.append(named(arguments.demands, lines_of(fault)))
     if given is None or faults:
         raise Faults(*faults)
+    notes += table.apart([time for time, _ in slots], arguments.minutes)
     demands = [(time, steps_of(mw)) for time, mw in slots]
     shown = dispatched = answers.day(given.site, demands)
     if arguments.plan:
@@ -148,7 +149,8 @@ def day(arguments: argparse.Namespace) -> tuple[Report, list[str]]:
             shown = planning.day(given.site, demands, arguments.effort or planning.SLOT_EFFORT, stopped)
     told = report.day_planned(shown, arguments.minutes, dispatched if arguments.plan else None)
     if arguments.picture is not None:
-        notes += day_picture.day(shown, given.site, arguments.picture, [arguments.site, arguments.demands])
+        how = "planned" if arguments.plan else "dispatched"
+        notes += day_picture.day(shown, given.site, arguments.picture, [arguments.site, arguments.demands], how)
         told.lines.append(f"{arguments.picture}: a picture of the day")
     return told, notes
 
@@ -231,6 +233,7 @@ def matpower_case(arguments: argparse.Namespace) -> tuple[Report, list[str]]:
         taken = matpower.read(
             spoken(arguments.case), data,
             may_stand=arguments.may_stand, ramp=arguments.ramp, nearest=arguments.round, demand_needed=needed,
+            high_costs=arguments.file is not None,
         )  # fmt: skip
     except Faults as fault:
         raise Refused(table.first(fault.lines)) from None
@@ -250,7 +253,7 @@ def _matpower_site(arguments: argparse.Namespace, site: Site, demand: int | None
     number = f"{len(site.sets)} set{'s' if len(site.sets) > 1 else ''}"
     of = f"; the demand is {exact.shown(mw)} MW" if mw is not None else ""
     body = {"file": arguments.file, **({} if mw is None else {"demand_mw": mw}), "sets": list(site.names)}
-    rows: list[list[object]] = [["file", "demand MW", *site.names], [arguments.file, mw, *site.names]]
+    rows: list[list[object]] = [["file", "demand MW", "sets"], [arguments.file, mw, len(site.sets)]]
     return Report([f"{arguments.file}: a site of {number}{of}"], body, rows)
 
 
@@ -303,9 +306,19 @@ def _print(text: str) -> int:
     return 2
 
 
+def _parsed(top: argparse.ArgumentParser, words: Sequence[str] | None) -> argparse.Namespace:
+    """What is typed. A demand may stand behind the options too, which argparse does not look for there."""
+    arguments, more = top.parse_known_args(words)
+    if len(more) == 1 and not more[0].startswith("-") and getattr(arguments, "demand", "") is None:
+        arguments.demand = more.pop()
+    if more:
+        top.error(f"unrecognized arguments: {' '.join(more)}")
+    return arguments
+
+
 def main(words: Sequence[str] | None = None, prog: str = "shahfureel") -> int:
     """Runs the command line and returns its status."""
-    arguments = parser(prog).parse_args(words)
+    arguments = _parsed(parser(prog), words)
     try:
         told, notes = run(arguments)
     except (Faults, FileFault, NoLibrary, NoPicture, Usage) as fault:
@@ -314,11 +327,12 @@ def main(words: Sequence[str] | None = None, prog: str = "shahfureel") -> int:
     except Refused as refused:
         _say([*(f"note: {note}" for note in table.first(refused.notes)), *refused.lines])
         if arguments.form == "json":
-            _print(report.to_json({"refused": refused.number, "words": refused.lines}) + "\n")
+            body = {"refused": refused.number or "MATPOWER case", "words": refused.lines, **({"notes": refused.notes} if refused.notes else {})}
+            _print(report.to_json(body) + "\n")
         return 1
     except KeyboardInterrupt:
         return 130
     _say([f"note: {note}" for note in table.first(notes)])
     if arguments.form == "csv":
         _say(told.warnings)
-    return _print(told.text(arguments.form)) or told.status
+    return _print(told.text(arguments.form, notes)) or told.status

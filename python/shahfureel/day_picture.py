@@ -26,11 +26,11 @@ HATCHES = ("", "//", "--", "\\\\", "||", "..", "xx", "oo")
 SOME_GAP, GREAT_GAP = "#9DB7CE", "#D55E00"
 
 
-def day(planned: PlannedDay, site: Site, path: str, inputs: Sequence[str]) -> list[str]:
-    """Draws a day into a file, never one of the inputs; says what could not be drawn as it should."""
+def day(planned: PlannedDay, site: Site, path: str, inputs: Sequence[str], how: str = "dispatched") -> list[str]:
+    """Draws a day into a file, never one of the inputs; says what could not be drawn as it should. `how` its outputs were found."""
     if not planned.slots:
         raise NoPicture(f"{path}: a day without slots has no picture")
-    return written(path, inputs, lambda: _day(planned, site))
+    return written(path, inputs, lambda: _day(planned, site, how))
 
 
 def moves(planned: PlannedDay, site: Site) -> Iterator[tuple[int, int, int]]:
@@ -92,7 +92,7 @@ def _stacks(planned: PlannedDay, site: Site) -> list[list[float]]:
     return found
 
 
-def _day(planned: PlannedDay, site: Site) -> Figure:
+def _day(planned: PlannedDay, site: Site, how: str) -> Figure:
     slots, stacks = planned.slots, _stacks(planned, site)
     refused = [slot.answer is None for slot in slots]
     entries = _day_entries(planned, site, any(refused))
@@ -107,8 +107,8 @@ def _day(planned: PlannedDay, site: Site) -> Figure:
     _demand(upper, [float(slot.demand) for slot in slots])
     _ramps(upper, stacks, list(moves(planned, site)))
     left_out = f", {sum(refused)} refused" if any(refused) else ""
-    upper.set_title(f"Outputs of {counted(len(site.sets), 'set')} in {counted(len(slots), 'slot')}{left_out}")
-    upper.set_ylabel("output of each set, MW")
+    upper.set_title(f"Outputs of {counted(len(site.sets), 'set')} in {counted(len(slots), 'slot')}, {how}{left_out}")
+    upper.set_ylabel("outputs, one upon another, MW")
     legend(upper, entries, columns, loc="upper left", bbox_to_anchor=beside(upper))
     _gaps(lower, [slot.answer for slot in slots])
     _refused(upper, lower, refused)
@@ -134,7 +134,7 @@ def _day_entries(planned: PlannedDay, site: Site, refused: bool) -> list[tuple[A
     from matplotlib.patches import Patch
 
     solved = [slot.answer for slot in planned.slots if slot.answer is not None]
-    entries: list[tuple[Any, str]] = [(Line2D([], [], color=INK, linewidth=2), "demand")]
+    entries: list[tuple[Any, str]] = [(Line2D([], [], color=INK, linewidth=2), "demand (above: losses, surplus)")]
     for i, name in reversed(list(enumerate(site.names))):
         never = ", never runs" if solved and not any(answer.outputs[name] for answer in solved) else ""
         entries.append((Patch(linewidth=0.5, **fill(i)), literal(name, NAME_MAX) + never))
@@ -201,6 +201,8 @@ def _gaps(axes: Axes, solved: Sequence[Answer | None]) -> None:
         corners = [[(k + side, 0), (k + side, gap), (k + 1 - side, gap), (k + 1 - side, 0)] for k, gap in bars]
         axes.add_collection(PolyCollection(corners, gid=name, zorder=2, **look), autolim=False)
     axes.axhline(limit, zorder=3, gid="five-percent", **DASHED)
+    if most < limit / 50 and any(solved):
+        axes.text(0.5, 0.35, f"every gap is at most {most:.2f} %", transform=axes.transAxes, ha="center", gid="small-gaps")
     axes.set_ylabel("gap, % of the cost:\nat most so much\nabove the best")
     entries: list[tuple[Any, str]] = [(Patch(**look), f"gap {words}") for _, words, look in reversed(list(kinds.values()))]
     entries.append((Line2D([], [], **DASHED), f"{limit} %"))

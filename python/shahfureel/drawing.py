@@ -51,6 +51,7 @@ def check(path: str, inputs: Sequence[str] = ()) -> None:
     if not path.lower().endswith(SUFFIXES):
         raise NoPicture(f"{path}: a picture is an .svg or a .png file: let its name end so")
     files.apart(path, inputs, "picture")
+    files.check_place(path)
     try:
         import matplotlib.figure  # noqa: F401
     except (ImportError, AttributeError, OSError, RuntimeError, ValueError) as error:  # missing, or made for another numpy

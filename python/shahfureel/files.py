@@ -56,6 +56,17 @@ def apart(path: str, inputs: Sequence[str], kind: str) -> None:
             raise FileFault(path, f"the {kind} would replace {what}")
 
 
+def check_place(path: str) -> None:
+    """Refuses a path that nothing can be written to, as far as that can be told before: a folder, or a place that is not there."""
+    target = os.path.realpath(path)
+    if os.path.isdir(target):
+        raise FileFault(path, "it is a folder: name a file")
+    if not os.path.isdir(os.path.dirname(target)):
+        raise FileFault(path, "its folder is not there: make it first")
+    if not os.access(target if os.path.exists(target) else os.path.dirname(target), os.W_OK):
+        raise FileFault(path, "it cannot be written there")
+
+
 def write(path: str, data: bytes, inputs: Sequence[str], kind: str = "case file") -> None:
     """Writes a file: into one beside it, which then takes its place. What is no plain file, such as a device, is written as it is."""
     apart(path, inputs, kind)

@@ -154,7 +154,7 @@ def _floors_legend(axes: Axes, expected: Decimal, uncovered: bool, said: bool) -
     from matplotlib.patches import Patch
 
     entries: list[tuple[Any, str]] = [
-        (Line2D([], [], **COST_MARK), "cost of a demand's own dispatch"),
+        (Line2D([], [], **COST_MARK), "cost of a demand's own dispatch; a plan may cost less"),
         (Line2D([], [], **BOUND_MARK), "its own bound: cost less gap"),
         (Line2D([], [], **DASHED), f"expected demand: {shown(expected)} MW"),
         (Line2D([], [], **BOUND_LINE), "bound by the one search at the expected demand"),

@@ -55,7 +55,7 @@ class Given:
     def needed(self) -> int:
         """The demand, which must be there."""
         if self.demand is None:
-            how = "as --demand 23.5" if self.command == "judge" else "such as 23.5"
+            how = {"judge": "as --demand 23.5", "floors": "such as 23.5, before --at"}.get(self.command, "such as 23.5")
             raise Usage(f"a CSV file has no demand of its own: give one in MW, {how}")
         return self.demand
 

@@ -49,7 +49,7 @@ def lowered(units: Sequence[Unit], regions: Sequence[Run], outputs: Sequence[int
     while heap:
         saved, i = heapq.heappop(heap)
         net = units[i].net(found[i]) - units[i].net(found[i] - 1)
-        if saved < 0 and net <= surplus:
+        if saved <= 0 and net <= surplus:
             found[i], surplus = found[i] - 1, surplus - net
             if found[i] > regions[i][0]:
                 heapq.heappush(heap, step(i))

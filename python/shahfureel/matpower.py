@@ -11,13 +11,13 @@ from typing import Sequence
 from . import exact, gencost, library
 from .exact import DEMAND, POWER, Quantity, shown
 from .matpower_text import COLUMNS, Cell, Matrix, Row, Told, counted, matrices_of, quoted, text_of
-from .site import COSTS, Set, Site
+from .site import COSTS, SITE_COSTS, Set, Site
 from .table import Faults
 
 BUS, PG, STATUS, PMAX, PMIN = 0, 1, 7, 8, 9
 RAMPS = {10: 17, 30: 18}
 TYPE, PD = 1, 2
-DEGREES = [("constant", COSTS["A"]), ("linear", COSTS["B"]), ("square", COSTS["C"])]
+DEGREES = (("constant", "A"), ("linear", "B"), ("square", "C"))
 LEAST = Decimal("0.1")  # of a set that runs
 ISOLATED = 4
 NO_PLACE = (
@@ -38,20 +38,28 @@ class Case:
 
 
 def read(
-    name: str, data: bytes, *, may_stand: bool = False, ramp: int | None = None, nearest: bool = False, demand_needed: bool = True
+    name: str,
+    data: bytes,
+    *,
+    may_stand: bool = False,
+    ramp: int | None = None,
+    nearest: bool = False,
+    demand_needed: bool = True,
+    high_costs: bool = False,
 ) -> Case:
     """The case of a file's bytes; raises Faults with all that cannot be taken, in the order of the file.
 
     Units in service must run, unless `may_stand`. With a `ramp` of 10 or 30 minutes that column limits them, from Pg on. With `nearest`
-    what is too fine or a cost above its limit becomes the nearest that will do. Without `demand_needed` nothing of bus is a fault.
+    what is too fine or a cost above its limit becomes the nearest that will do. Without `demand_needed` nothing of bus is a fault. With
+    `high_costs` they may be above the limits of a case file, as in a site of a CSV file.
     """
     if ramp not in (None, *RAMPS):
         raise ValueError(f"a ramp is one of 10 or 30 minutes, and not of {ramp}")
     told = Told(text_of(name, data))
     matrices = matrices_of(told)
-    reader = _Reader(told, may_stand, ramp, nearest)
-    sets = reader.sets(matrices.get("gen"), matrices.get("gencost"))
+    reader = _Reader(told, may_stand, ramp, nearest, high_costs)
     demand = reader.demand(matrices.get("bus"), demand_needed)
+    sets = reader.sets(matrices.get("gen"), matrices.get("gencost"))
     for missing in COLUMNS if not told.open else ():
         if missing not in matrices and not any(fault.of == missing for fault in told.faults):
             told.fault(len(told.text), f"{name}: {_missing(missing)}", missing, False)
@@ -85,8 +93,10 @@ def _difference(value: Decimal, taken: Decimal) -> str:
 class _Reader:
     """Makes sets and a demand of the matrices; what it cannot take it tells, and goes on."""
 
-    def __init__(self, told: Told, may_stand: bool, ramp: int | None, nearest: bool) -> None:
+    def __init__(self, told: Told, may_stand: bool, ramp: int | None, nearest: bool, high_costs: bool) -> None:
         self.told, self.may_stand, self.ramp, self.nearest = told, may_stand, ramp, nearest
+        self.costs = SITE_COSTS if high_costs else COSTS
+        self.isolated: set[Decimal] = set()
 
     def taken(self, cell: Cell, quantity: Quantity, name: str = "", cut: bool = False) -> Decimal | None:
         """A cell's number as one of whole units up to a limit. With `cut` the limit is the nearest to what is above it."""
@@ -102,14 +112,15 @@ class _Reader:
             return value
         else:
             why = f"is above {quantity.most}" if above else f"is not a whole number of {quantity.unit}"
-            return self._rounded(cell, value, _nearest(value, quantity), why, name)
+            near = _nearest(value, quantity)
+            return self._rounded(cell, value, near, why, name, "; --site writes it as it is" if above else "")
         return None
 
-    def _rounded(self, cell: Cell, value: Decimal, near: Decimal, why: str, name: str) -> Decimal | None:
+    def _rounded(self, cell: Cell, value: Decimal, near: Decimal, why: str, name: str, instead: str) -> Decimal | None:
         if self.nearest:
             self.told.note(cell.at, f"{self.told.place(cell, name)} is taken as {shown(near)}, {_difference(value, near)}")
             return near
-        self.told.wrong(cell, f"{why}: the nearest that will do is {shown(near)}, which --round takes", name)
+        self.told.wrong(cell, f"{why}: the nearest that will do is {shown(near)}, which --round takes{instead}", name)
         return None
 
     def sets(self, gens: Matrix | None, costs: Matrix | None) -> list[Set]:
@@ -136,11 +147,12 @@ class _Reader:
             self.told.fault(first[0].at, words, "gencost")
 
     def _serves(self, row: Row) -> bool:
-        """Whether a unit is in service: its status is above 0."""
-        status = row[STATUS].value
-        if status is not None and status <= 0:
-            self.told.note(row[0].at, f", gen row {row[0].row}: {self._name(row)} is out of service, and left out")
-        return status is not None and status > 0
+        """Whether a unit is in service: its status is above 0, and its bus not isolated."""
+        status, alone = row[STATUS].value, row[BUS].value in self.isolated
+        if status is not None and (status <= 0 or alone):
+            why = "is out of service" if status <= 0 else "is at an isolated bus (its type is 4)"
+            self.told.note(row[0].at, f", gen row {row[0].row}: {self._name(row)} {why}, and left out")
+        return status is not None and status > 0 and not alone
 
     def _name(self, row: Row) -> str:
         bus = row[BUS].value
@@ -172,7 +184,7 @@ class _Reader:
         elif not least and greatest <= LEAST:
             self.told.wrong(row[PMAX], "is below 0.2 MW, and Pmin is 0: a set that runs gives 0.1 MW or more, and its Pmax is above that")
         elif not least:
-            what = f"{self._name(row)} stands, or gives 0.1 MW and more, since its Pmin is 0: at 0 MW it costs nothing"
+            what = f"{self._name(row)} may stand, or give 0.1 MW and more, since its Pmin is 0: at 0 MW it costs nothing"
             self.told.note(row[PMIN].at, f", gen row {row[0].row}: {what}")
         return least, greatest
 
@@ -202,20 +214,23 @@ class _Reader:
         values: list[Decimal | None] = [Decimal(0)] * 3
         for degree, cell in enumerate(reversed(cells[:count])):
             if degree < 3:
-                name, quantity = DEGREES[degree]
-                values[degree] = self.taken(cell, quantity, name, cut=True)
+                name, column = DEGREES[degree]
+                values[degree] = self.taken(cell, self.costs[column], name, cut=True)
             elif cell.value:
                 name = "cube" if degree == 3 else f"power of {degree}"
                 self.told.wrong(cell, "is not 0, and costs here end at the square", name)
         known = [value for value in values if value is not None]
         if len(known) < 3:
             return None
+        if any(value > COSTS[column].limit for value, (_, column) in zip(known, DEGREES)):
+            return known[0], known[1], known[2]  # more than a cost row may have
         return gencost.costs(f"2 0 0 3 {shown(known[2])} {shown(known[1])} {shown(known[0])}".encode())
 
     def demand(self, buses: Matrix | None, needed: bool) -> int | None:
         """The sum of Pd in steps, if all of them are known and it is one that can be asked for."""
         rows = list(buses.rows.values()) if buses else []
-        cells = [row[PD] for row in rows]
+        self.isolated = {row[BUS].value for row in rows if row[TYPE].value == ISOLATED and row[BUS].value is not None}
+        cells = [row[PD] for row in rows if row[BUS].value not in self.isolated]
         if not buses or len(rows) < buses.count or any(cell.value is None for cell in cells):
             return None
         total = Decimal(0)
@@ -225,10 +240,10 @@ class _Reader:
         fault, said = _demand_fault(total), f"the sum of Pd, {exact.quoted(shown(total))} MW,"
         near = _nearest(total, DEMAND)
         if fault.startswith("is not") and self.nearest and needed:
-            self.told.note(cells[0].at, f", mpc.bus: {said} is taken as {shown(near)}, {_difference(total, near)}")
+            self.told.note(rows[0][0].at, f", mpc.bus: {said} is taken as {shown(near)}, {_difference(total, near)}")
         elif fault:
             hint = f": the nearest that will do is {shown(near)}, which --round takes" if fault.startswith("is not") else ""
-            self.told.fault(cells[0].at, f", mpc.bus: {said} {fault}{hint}", "bus")
+            self.told.fault(rows[0][0].at, f", mpc.bus: {said} {fault}{hint}", "bus")
             return None
         if needed:
             self._say_isolated(rows)
@@ -236,9 +251,8 @@ class _Reader:
 
     def _say_isolated(self, rows: list[Row]) -> None:
         for row in rows:
-            if row[TYPE].value == ISOLATED and row[PD].value:
-                words = "it is isolated (its type is 4), and MATPOWER would leave it out: its Pd is counted here"
-                self.told.note(row[0].at, f", bus row {row[0].row}: {words}")
+            if row[BUS].value in self.isolated and row[PD].value:
+                self.told.note(row[0].at, f", bus row {row[0].row}: it is isolated (its type is 4), and its Pd left out, as MATPOWER does")
 
 
 def _demand_fault(total: Decimal) -> str:

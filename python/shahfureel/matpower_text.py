@@ -25,6 +25,10 @@ COLUMNS: dict[str, list[str]] = {
 NEEDED = {"gen": 10, "gencost": 5, "bus": 3}  # so many columns at least
 PLACES_MAX = 400  # behind the point; MATPOWER's own numbers have fewer that count
 
+# columns of which a number is needed; elsewhere Inf and NaN may stand
+READ = {"gen": {0, 1, 7, 8, 9, 17, 18}, "bus": {0, 1, 2}}
+_ENDLESS = re.compile(r"[+-]?(?:inf|nan)", re.I)
+
 _NUMBER = re.compile(r"[+-]?(?:[0-9]+\.?[0-9]*|\.[0-9]+)(?:[eEdD][+-]?[0-9]+)?")
 _TOKEN = re.compile(
     r"(?P<more>\.\.\.[^\n]*\n?)|(?P<line>\n)|(?P<blank>[ \t]+)|(?P<remark>%[^\n]*)|(?P<open>[\[({])|(?P<close>[\])}])|(?P<stop>[;,])"
@@ -289,6 +293,8 @@ def _cells(told: Told, name: str, tokens: Sequence[_Token]) -> Iterator[Row]:
 
 def _cell(told: Told, cell: Cell) -> Cell:
     """A cell with its number, of which as much is asked as that MATPOWER could read it too."""
+    if _ENDLESS.fullmatch(cell.text) and cell.column not in READ.get(cell.matrix, {0, *range(3, cell.column + 1)}):
+        return cell
     if not _NUMBER.fullmatch(cell.text):
         alone = "is a sign without a number: write the two without a blank between them, or what the sum comes to"
         told.wrong(cell, alone if cell.text in ("+", "-") else "is not a plain number like 12, -0.5 or 1e-3")

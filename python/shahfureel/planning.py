@@ -70,12 +70,11 @@ def plan(site: Site, demand: int, effort: int = EFFORT, stop: Callable[[], bool]
 
 def day(site: Site, slots: Sequence[tuple[str, int]], effort: int = SLOT_EFFORT, stop: Callable[[], bool] = lambda: False) -> PlannedDay:
     """Plans slots of (time, demand in steps) one after the other, each from the outputs of the last that was covered. A slot's plan is
-    certified, the day as a whole is not. From a stop on, slots are still planned, but as little as can be."""
+    certified, the day as a whole is not. From the slot on that a stop comes in, slots are still planned, but as little as can be."""
     planned: list[PlannedSlot] = []
     previous = [one.row()[6] for one in site.sets]
     starts, total, stopped = [0] * len(previous), decimal(0, MONEY_PLACES), ""
     for time, demand in slots:
-        stopped = stopped or (time if stop() else "")
         try:
             answer = plan(site.after(previous), demand, effort, stop).answer
         except Refusal as refusal:
@@ -84,6 +83,8 @@ def day(site: Site, slots: Sequence[tuple[str, int]], effort: int = SLOT_EFFORT,
             why = "; ".join(answers.why_not_covered(site, demand, previous, "from their outputs before, "))
             planned.append(PlannedSlot(time, decimal(demand, 1), None, why))
             continue
+        finally:
+            stopped = stopped or (time if stop() else "")
         planned.append(PlannedSlot(time, answer.demand, answer))
         outputs = [POWER.units(mw) for mw in answer.outputs.values()]
         starts = [before + (not last and now > 0) for before, last, now in zip(starts, previous, outputs)]
@@ -112,7 +113,7 @@ class _Search:
         self.file, self.everything = self.case.pack(), whole(self.case)
         self.units, self.target = self.case.units, STEP * demand
         self.left, self.nodes = effort, 0
-        self.cost, self.outputs = EVERYTHING, [0] * len(rows)
+        self.cost, self.surplus, self.outputs = EVERYTHING, 0, [0] * len(rows)
         self.seen: set[tuple[tuple[Run, ...], int]] = set()
 
     def spend(self, nodes: int) -> None:
@@ -129,13 +130,13 @@ class _Search:
     # ---- outputs
 
     def consider(self, outputs: Sequence[int]) -> None:
-        """Takes outputs that the judge accepts, if they are cheaper than the best."""
+        """Takes outputs that the judge accepts, if they are cheaper than the best, or as cheap with less surplus."""
         try:
             judged = library.judge(self.file, outputs)
         except (Refusal, ValueError):
             return
-        if judged.accepted and judged.cost < self.cost:
-            self.cost, self.outputs = judged.cost, list(outputs)
+        if judged.accepted and (judged.cost, judged.surplus) < (self.cost, self.surplus):
+            self.cost, self.surplus, self.outputs = judged.cost, judged.surplus, list(outputs)
 
     def improve(self, outputs: Sequence[int]) -> None:
         """Improves outputs within their regions, and those of one price in these regions, unless they had their turn."""

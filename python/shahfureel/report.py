@@ -26,9 +26,10 @@ class Report:
     warnings: list[str] = field(default_factory=list)
     status: int = 0
 
-    def text(self, form: str) -> str:
+    def text(self, form: str, notes: Sequence[str] = ()) -> str:
+        """What is printed; in JSON with the notes, if there are any."""
         if form == "json":
-            body: dict[str, object] = {**self.json, "words": self.warnings}
+            body: dict[str, object] = {**self.json, "words": self.warnings, **({"notes": list(notes)} if notes else {})}
             return to_json(body) + "\n"
         if form == "csv":
             sink = io.StringIO()
@@ -195,9 +196,9 @@ def planned(plan: Plan) -> Report:
         "dispatch": answer_json(own),
         "refined": answer_json(plan.refined),
     }
-    table: list[list[object]] = [[*_titles("above the best"), "dispatch's cost an hour", "refined cost an hour", *answer.outputs]]
+    table: list[list[object]] = [[*_titles("above the best"), "dispatch's cost an hour", "refined cost an hour", "end", *answer.outputs]]
     cells = [answer.demand, answer.cost, answer.gap, plan.above_percent, answer.bound, answer.surplus]
-    table.append([*cells, own.cost, plan.refined.cost, *answer.outputs.values()])
+    table.append([*cells, own.cost, plan.refined.cost, plan.end, *answer.outputs.values()])
     return Report([*lines, _bounds(plan), plan.end], body, table, warnings)
 
 
@@ -289,7 +290,7 @@ def day_planned(day: PlannedDay, minutes: int, dispatched: PlannedDay | None = N
             rows.append([slot.time, *cost_cells(slot.answer), *slot.answer.outputs.values(), ""])
     rows.append(["starts", *[None] * 6, *day.starts.values(), None])
     rows.append(["cost", None, spent, *[None] * (5 + len(names))])
-    if dispatched is not None:
+    if dispatched is not None and not unlike:
         rows.append(["cost dispatched", None, _share(dispatched.total, minutes)[0], *[None] * (5 + len(names))])
     return Report(lines, body, rows, warnings, 1 if refused else 0)
 
@@ -299,9 +300,12 @@ def _beside(day: PlannedDay, dispatched: PlannedDay, minutes: int) -> tuple[str,
     what one slot saves another may cost."""
     spent, exactly = _share(dispatched.total, minutes)
     said = f"dispatched slot by slot it costs {'' if exactly else 'about '}{shown(spent)}"
-    other = [b.time for a, b in zip(day.slots, dispatched.slots) if (a.answer is None) != (b.answer is None)]
-    if other:
-        return said, f"the two costs are not of the same slots: {_listed(other)} is refused in one of them and not in the other"
+    pairs = [(a.time, a.answer is None, b.answer is None) for a, b in zip(day.slots, dispatched.slots)]
+    lost, won = ([time for time, *refused in pairs if refused == which] for which in ([True, False], [False, True]))
+    if lost or won:
+        also = [f"dispatched, {_listed(lost)} is covered: leave out --plan, or give the slot before more demand"] if lost else []
+        also += [f"dispatched, {_listed(won)} is refused"] if won else []
+        return said, "; ".join(["the two costs are not of the same slots", *also])
     difference = spent - _share(day.total, minutes)[0]
     compared = "as much" if not difference else f"{shown(abs(difference))} {'more' if difference > 0 else 'less'}"
     return f"{said}: {compared}", ""

@@ -32,6 +32,7 @@ COLUMNS = (
 YES, NO = ("yes", "true", "1"), ("no", "false", "0")
 BLANKS = " \t\u00a0\u202f"
 _THOUSANDS = re.compile(r"[1-9][0-9]{0,2}[.,][0-9]{3}")
+_CLOCK = re.compile(r"([01]?[0-9]|2[0-3]):([0-5][0-9])(?::00)?")
 _DATE = re.compile(r"[0-9]+[-/. ]+[^\W\d_]+.*|[^\W\d_]+[-/. ]+[0-9]+.*|[0-9]+([-/.])[0-9]+\1[0-9]+.*")
 
 
@@ -402,6 +403,17 @@ def read_demands(name: str, data: bytes) -> tuple[list[tuple[str, Decimal]], lis
     if table.faults:
         raise Faults(sorted(table.faults, key=_line_number))
     return slots, table.notes
+
+
+def apart(times: Sequence[str], minutes: int) -> list[str]:
+    """A note where times of the day are evenly apart, but not by as many minutes as a slot is said to last."""
+    clocks = [_CLOCK.fullmatch(time) for time in times]
+    at = [60 * int(clock[1]) + int(clock[2]) for clock in clocks if clock]
+    steps = {(later - sooner) % 1440 for sooner, later in zip(at, at[1:])}
+    if len(at) < len(times) or len(steps) != 1 or steps <= {0, minutes}:
+        return []
+    (step,) = steps
+    return [f"the times are {step} minutes apart, and a slot is taken to last {minutes}: if it lasts {step}, give --minutes {step}"]
 
 
 def _read_demand(table: Table, line: Line, text: str) -> Decimal | None:

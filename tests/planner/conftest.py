@@ -8,7 +8,7 @@ from pathlib import Path
 from typing import NamedTuple
 
 import pytest
-from hypothesis import settings
+from hypothesis import HealthCheck, settings
 from hypothesis.configuration import set_hypothesis_home_dir
 
 ROOT = Path(__file__).resolve().parents[2]
@@ -17,7 +17,8 @@ sys.path[:0] = [str(ROOT / "python"), str(Path(__file__).resolve().parent)]
 from shahfureel import commands  # noqa: E402
 
 set_hypothesis_home_dir(str(ROOT / "target/hypothesis"))
-settings.register_profile("gate", deadline=None, max_examples=60, database=None)
+# how fast a machine is, and what runs beside the tests, is none of their business
+settings.register_profile("gate", deadline=None, max_examples=60, database=None, suppress_health_check=[HealthCheck.too_slow])
 settings.load_profile("gate")
 
 HEADER = "name,A,B,C,L,least,greatest,previous,up,down,must run,zones"

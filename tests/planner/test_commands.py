@@ -189,8 +189,10 @@ def test_wrong_demands(say, word, message):
 
 
 def test_a_demand_is_asked_for(say):
-    for command in ("dispatch", "refine", "floors"):
+    for command in ("dispatch", "refine", "plan"):
         assert say(command, HARBOUR) == (2, "", "a CSV file has no demand of its own: give one in MW, such as 23.5\n")
+    before = "a CSV file has no demand of its own: give one in MW, such as 23.5, before --at\n"
+    assert say("floors", HARBOUR, "--at", "22.3", "23.5") == (2, "", before)
     assert say("judge", HARBOUR, "1", "2", "3", "4") == (2, "", "a CSV file has no demand of its own: give one in MW, as --demand 23.5\n")
     assert say("dispatch", "examples/harbour.case", "30.8") == (1, "", SHORT.format("30.8", "30.4"))
 

@@ -87,7 +87,7 @@ def test_a_case_that_is_taken_whole():
     ))
     assert [one.place for one in case.site.sets] == [f"line {15 + k}, gen {k} bus {bus}" for k, bus in ((1, 1), (2, 1), (3, 2), (4, 3))]
     assert case.notes == [
-        "line 19, gen row 4: gen 4 bus 3 stands, or gives 0.1 MW and more, since its Pmin is 0: at 0 MW it costs nothing",
+        "line 19, gen row 4: gen 4 bus 3 may stand, or give 0.1 MW and more, since its Pmin is 0: at 0 MW it costs nothing",
         "line 20, gen row 5: gen 5 bus 4 is out of service, and left out",
         matpower.NO_PLACE,
     ]
@@ -105,16 +105,15 @@ def test_the_squares_are_28_and_the_fine_one_27():
             assert refusal.value.number == number
 
 
-def test_the_squares_put_back_into_a_written_site(say, tmp_path):
-    """As the guide says: a CSV file holds what is above a case file's limits, exactly."""
+def test_a_written_site_has_costs_above_the_limits(say, tmp_path):
+    """As the guide says: a CSV file holds what is above a case file's limits, exactly. With --round too: nothing is too fine."""
     site = tmp_path / "site.csv"
-    assert say("matpower", "examples/matpower-square.m", "--round", "--site", site).status == 0
-    lines = site.read_text().splitlines()
-    lines[1], lines[3] = lines[1].replace(",0.1,", ",0.11,"), lines[3].replace(",0.1,", ",0.1225,")
-    made = table.read_site("x", "\n".join(lines).encode())[0]
-    answer = shahfureel.dispatch(made, 315)
-    assert [one.C for one in made.sets] == [Decimal("0.11"), Decimal("0.085"), Decimal("0.1225")] and made.money > 1
-    said = f"cost {answer.cost} at 315 MW, with a gap of {answer.gap}."
+    for more in ([], ["--round"]):
+        assert say("matpower", "examples/matpower-square.m", *more, "--site", site).status == 0
+        made = table.read_site("x", site.read_bytes())[0]
+        assert [one.C for one in made.sets] == [Decimal("0.11"), Decimal("0.085"), Decimal("0.1225")] and made.money > 1
+        site.unlink()
+    said = f"are planned so at 315 MW for {shahfureel.plan(made, 315).answer.cost}."
     assert said in (ROOT / "docs/PLANNER.md").read_text(encoding="utf-8")
 
 
@@ -188,11 +187,13 @@ def test_the_demand():
     near = read(text(bus=["1 3 40.05"]), nearest=True)
     assert near.demand == 401 and near.notes[0] == "line 1, mpc.bus: the sum of Pd, 40.05 MW, is taken as 40.1, 0.05 more"
     isolated = read(text(bus=["1 3 30", "2 4 5", "3 4 0"]))
-    assert isolated.demand == 350 and isolated.notes[0] == (
-        "line 2, bus row 2: it is isolated (its type is 4), and MATPOWER would leave it out: its Pd is counted here")
+    assert isolated.demand == 300 and isolated.notes[0] == (
+        "line 2, bus row 2: it is isolated (its type is 4), and its Pd left out, as MATPOWER does")
+    alone = read(text([GEN, changed(GEN, c1="2")], [COST, COST], bus=["1 3 30", "2 4 5"]))
+    assert len(alone.site.sets) == 1 and "gen row 2: gen 2 bus 2 is at an isolated bus (its type is 4), and left out" in alone.notes[1]
     # what is not needed is no fault and is not said, and is known only where it can be asked for
     assert read(text(), demand_needed=False).demand == 305
-    assert read(text(bus=["1 3 30", "2 4 5"]), demand_needed=False) == matpower.Case(read(text()).site, 350, [matpower.NO_PLACE])
+    assert read(text(bus=["1 3 30", "2 4 5"]), demand_needed=False) == matpower.Case(read(text()).site, 300, [matpower.NO_PLACE])
     for bus in (["1 3 40.05"], ["1 3 Inf"], ["1 3 5", "1 3"], ["1 3"], ["1 3 -1"], ["1 3 1e5"]):
         assert read(text(bus=bus), demand_needed=False, nearest=True).demand is None and faults(text(bus=bus))
     for source in (text().split("\n", 1)[1], text(end="mpc.bus(1, 3) = 5;"), text(end="mpc.bus = [1 2 3];")):
@@ -259,7 +260,8 @@ def test_thirty_two_units_are_taken():
 ])
 def test_the_nearest(rows, place, word, why, near, difference):
     line = 2 if "gen" in rows else 3
-    assert faults(text(**rows)) == [f"line {line}, {place}: {word} {why}: the nearest that will do is {near}, which --round takes"]
+    instead = "; --site writes it as it is" if "above" in why else ""
+    assert faults(text(**rows)) == [f"line {line}, {place}: {word} {why}: the nearest that will do is {near}, which --round takes{instead}"]
     taken = read(text(**rows), nearest=True)
     assert taken.notes[0] == f"line {line}, {place}: {word} is taken as {near}, {difference}"
     made = taken.site.sets[0]
@@ -271,7 +273,7 @@ def test_what_the_nearest_make_is_looked_at_again():
         "line 2, gen row 1, column 10 (Pmin): 9.96 is not below Pmax, which is 10"]
     zero = read(text([changed(GEN, c10="0.04")]), nearest=True)
     assert not zero.site.sets[0].must_run and [note.split(": ")[1] for note in zero.notes[:2]] == [
-        "0.04 is taken as 0, 0.04 less", "gen 1 bus 1 stands, or gives 0.1 MW and more, since its Pmin is 0"]
+        "0.04 is taken as 0, 0.04 less", "gen 1 bus 1 may stand, or give 0.1 MW and more, since its Pmin is 0"]
 
 
 NUMBERS = st.builds(lambda digits, places: exact.decimal(digits, places), st.integers(0, 10**9), st.integers(0, 12))
@@ -355,10 +357,13 @@ WORDS = ["Inf", "-Inf", "inf", "NaN", "pi", "1/3", "5*2", "2^2", "1-2", "1+2", "
 @pytest.mark.parametrize("word", WORDS)
 @pytest.mark.parametrize("matrix, column", [("gen", 9), ("gen", 4), ("gencost", 2), ("bus", 3)])
 def test_words_that_are_no_plain_numbers(word, matrix, column):
-    """In every column of the three matrices, read or not, and also of a unit out of service."""
+    """In every column of the three matrices, read or not, and also of a unit out of service; Inf and NaN where a column is read."""
     rows = {"gen": [GEN, changed(GEN, c8="0")], "gencost": [COST, COST], "bus": [BUS, BUS]}
     rows[matrix][1] = changed(rows[matrix][1], **{f"c{column}": word})
     line, named = {"bus": 2, "gen": 4, "gencost": 6}[matrix], matpower_text.COLUMNS[matrix][column - 1]
+    if word.lower().lstrip("-") in ("inf", "nan") and (matrix, column) in (("gen", 4), ("gencost", 2)):
+        assert read(text(**rows)).site == read(text(gen=[GEN, changed(GEN, c8="0")], gencost=[COST, COST])).site
+        return
     assert faults(text(**rows)) == [f"line {line}, {matrix} row 2, column {column} ({named}): {word.replace(chr(160), '?')} {PLAIN}"]
 
 
@@ -565,7 +570,7 @@ def test_status_and_forms(say, tmp_path):
     assert json.loads(say("matpower", path, "340.1", "--json").out)["refused"] == 11
     # faults end with 1, in JSON too
     wrong = say("matpower", "examples/matpower-wrong.m", "--json")
-    assert wrong.status == 1 and json.loads(wrong.out) == {"refused": None, "words": wrong.err.splitlines()}
+    assert wrong.status == 1 and json.loads(wrong.out) == {"refused": "MATPOWER case", "words": wrong.err.splitlines()}
     many = tmp_path / "many.m"
     many.write_text(text(["x " * 90]))
     assert len(say("matpower", many).err.splitlines()) == 51 and say("matpower", many).err.endswith("and 40 more\n")
@@ -601,9 +606,10 @@ def test_a_site_is_written(say, tmp_path):
     assert made == read(WHOLE.read_bytes(), ramp=10).site and notes == []
     assert say("plan", site, "275").out == say("matpower", path, "--ramp", "10").out
     # as JSON and CSV, with another demand, and without one
-    assert json.loads(say("matpower", path, "280", "--site", site, "--json").out) == {
-        "file": str(site), "demand_mw": 280.0, "sets": list(made.names), "words": []}
-    assert say("matpower", path, "--site", site, "--csv").out == f"file,demand MW,{','.join(made.names)}\n{site},275.0,{','.join(made.names)}\n"
+    body = json.loads(say("matpower", path, "280", "--site", site, "--json").out)
+    assert body.pop("notes") == read(WHOLE.read_bytes()).notes
+    assert body == {"file": str(site), "demand_mw": 280.0, "sets": list(made.names), "words": []}
+    assert say("matpower", path, "--site", site, "--csv").out == f"file,demand MW,sets\n{site},275.0,4\n"
     alone = tmp_path / "alone.m"
     alone.write_text(text(bus=["1 3 0.05"]))
     assert say("matpower", alone, "--site", site).out == f"{site}: a site of 1 set\n"

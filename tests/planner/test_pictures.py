@@ -109,8 +109,8 @@ def test_a_day_has_what_it_says(say, harbour_day, tmp_path):
     rises, falls = limited_moves(HARBOUR, rows, names)
     assert (drawn.count("rises", "use"), drawn.count("falls", "use")) == (rises, falls) == (3, 0)
     assert drawn.texts.count("refused") == len(drawn.starting("refused")) == len(rows) - len(solved) == 1
-    for words in ("demand", "output of each set, MW", "time", "gap above 5 %", "gap up to 5 %", "5 %", "rose by its ramp limit",
-                  "refused: not covered", "Outputs of 4 sets in 24 slots, 1 refused"):
+    for words in ("demand (above: losses, surplus)", "outputs, one upon another, MW", "time", "gap above 5 %", "gap up to 5 %", "5 %", "rose by its ramp limit",
+                  "refused: not covered", "Outputs of 4 sets in 24 slots, dispatched, 1 refused"):
         assert words in drawn.texts
     assert "gap, % of the cost: at most so much above the best" in " ".join(drawn.texts) and "fell by its ramp limit" not in drawn.texts
     assert [text for text in drawn.texts if re.fullmatch(r"\d\d:\d\d", text)] == [row["time"] for row in rows[::2]]
@@ -155,7 +155,7 @@ def test_a_png_is_not_blank(say, tmp_path):
     assert pixels.shape[:2] == (height, width)
     numbers = (pixels[:, :, 0] << 16 | pixels[:, :, 1] << 8 | pixels[:, :, 2]).ravel()
     parts = Counter(numbers[::7].tolist())
-    assert len(parts) > 50 and parts[0xFFFFFF] < 0.7 * sum(parts.values())
+    assert len(parts) > 50 and parts[0xFFFFFF] < 0.75 * sum(parts.values())
     for place in range(4):  # every set has an area in its own colour
         assert parts[int(day_picture.fill(place)["facecolor"][1:], 16)] > 0.005 * sum(parts.values())
 
@@ -164,10 +164,10 @@ def test_small_and_empty_days(tmp_path):
     harbour = read(HARBOUR)
     free = shahfureel.Site(tuple(replace(one, must_run=False) for one in harbour.sets))
     cases = [
-        (harbour, ["23.5"], 1, 0, "Outputs of 4 sets in 1 slot"),
-        (harbour, ["60", "70"], 0, 1, "Outputs of 4 sets in 2 slots, 2 refused"),
-        (free, ["0", "0"], 2, 0, "Outputs of 4 sets in 2 slots"),
-        (free.alone(3), ["5"], 0, 1, "Outputs of 1 set in 1 slot, 1 refused"),
+        (harbour, ["23.5"], 1, 0, "Outputs of 4 sets in 1 slot, dispatched"),
+        (harbour, ["60", "70"], 0, 1, "Outputs of 4 sets in 2 slots, dispatched, 2 refused"),
+        (free, ["0", "0"], 2, 0, "Outputs of 4 sets in 2 slots, dispatched"),
+        (free.alone(3), ["5"], 0, 1, "Outputs of 1 set in 1 slot, dispatched, 1 refused"),
     ]
     for site, demands, bars, runs, title in cases:
         path = tmp_path / "day.svg"
@@ -248,7 +248,7 @@ def test_floors_beside_dispatches(say, tmp_path):
     assert drawn.count("dispatches", "use") == drawn.count("own-bounds", "use") == 95  # 18.8 to 28.2 MW
     assert drawn.count("bound", "path") == 1 and drawn.count("uncovered", "use") == 0
     for words in ("demand, MW", "cost an hour", "nobody covers the demand for less", "expected demand: 23.5 MW",
-                  "cost of a demand's own dispatch", "its own bound: cost less gap", "bound by the one search at the expected demand"):
+                  "cost of a demand's own dispatch; a plan may cost less", "its own bound: cost less gap", "bound by the one search at the expected demand"):
         assert words in drawn.texts
 
 
@@ -317,7 +317,7 @@ def test_inputs_are_never_replaced(say, tmp_path, monkeypatch):
         monkeypatch.setattr(sys, "stdin", source)
         assert say("day", "-", demands, "--picture", "site.svg") == (2, "", "site.svg: the picture would replace what is read\n")
     said = say("floors", site, "23.5", "--picture", "no/such/folder.svg")
-    assert said == (2, "", "no/such/folder.svg: No such file or directory\n")
+    assert said == (2, "", "no/such/folder.svg: its folder is not there: make it first\n")
     assert sorted(tmp_path.iterdir()) == before
 
 

@@ -217,7 +217,29 @@ def test_a_plan_in_words_json_and_csv(say):
     assert body["dispatch"]["cost_an_hour"] == Decimal("1497.171250") and body["refined"]["nodes"] == 11
     head, line = (row.split(",") for row in say("plan", HARBOUR, "23.5", "--csv").out.splitlines())
     told = dict(zip(head, line))
-    assert told["diesel 2"] == "8.6" and told["above the best %"] == "0.0000" and told["dispatch's cost an hour"] == "1497.171250"
+    assert told["end"] == planning.BEST and told["diesel 2"] == "8.6" and told["above the best %"] == "0.0000" and told["dispatch's cost an hour"] == "1497.171250"
+
+
+def test_of_outputs_that_cost_the_same_those_with_less_surplus(site):
+    """Wind costs nothing a MW: dispatch has it at its greatest output, a plan at what is needed."""
+    sets = read(site("diesel,50,80,0.05,0.00003,3,10,5,5,5,yes,", "wind,0,0,0,0,0.1,10,0,,,no,", "sun,0,0,0,0,0.1,10,0,,,no,"))
+    plan = shahfureel.plan(sets, 8)
+    assert plan.answer.cost == plan.dispatched.cost and plan.answer.surplus < Decimal("0.1") < 4 < plan.dispatched.surplus
+
+
+def test_a_demand_may_stand_behind_the_options(say):
+    assert say("plan", HARBOUR, "--effort", "1,000,000", "23.5") == say("plan", HARBOUR, "23.5", "--effort", "1000000")
+    assert say("plan", HARBOUR, "23.5", "24").status == say("plan", HARBOUR, "--nothing", "24").status == 2
+
+
+def test_slots_that_are_not_hours_are_noticed(say, tmp_path):
+    demands = tmp_path / "day.csv"
+    demands.write_text("time,MW\n23:30,20\n23:45,20\n00:00,20\n")
+    note = "note: the times are 15 minutes apart, and a slot is taken to last 60: if it lasts 15, give --minutes 15\n"
+    assert say("day", HARBOUR, demands).err == note and say("day", HARBOUR, demands, "--minutes", "15").err == ""
+    for times in ("a b c", "00:00 01:00 02:00", "00:00 00:15 00:45", "7:00"):
+        demands.write_text("time,MW\n" + "".join(f"{time},20\n" for time in times.split()))
+        assert say("day", HARBOUR, demands).err == ""
 
 
 def test_no_percentage_of_a_bound_that_is_0(say, site):
@@ -311,14 +333,17 @@ def test_a_planned_day_may_refuse_a_slot_that_a_dispatched_one_covers(say, tmp_p
     assert (planned.status, dispatched.status) == (1, 0) and "refused: 09:00" in planned.out
     costs = [slot.answer.cost for slot in shahfureel.day(read(HARBOUR), ["20.7", "30.3"]).slots]
     assert f"dispatched slot by slot it costs {sum(costs)}\n" in planned.out
-    unlike = "the two costs are not of the same slots: 09:00 is refused in one of them and not in the other"
+    unlike = (
+        "the two costs are not of the same slots; dispatched, 09:00 is covered: leave out --plan, or give the slot before more demand"
+    )
+    assert "cost dispatched" not in say("day", HARBOUR, demands, "--plan", "--csv").out
     assert unlike in planned.out.splitlines() and unlike in json.loads(say("day", HARBOUR, demands, "--plan", "--json").out)["words"]
 
 
 def test_slots_of_one_name_are_told_apart_by_their_place(say, tmp_path):
     demands = tmp_path / "day.csv"
     demands.write_text("time,MW\nx,20.7\nx,30.3\nx,31.5\n")
-    assert "the two costs are not of the same slots: x is refused" in say("day", HARBOUR, demands, "--plan").out
+    assert "the two costs are not of the same slots; dispatched, x is covered: leave out" in say("day", HARBOUR, demands, "--plan").out
 
 
 def test_a_planned_day_as_csv_has_the_cost_dispatched(say):
@@ -331,6 +356,8 @@ def test_a_day_that_is_stopped_says_from_where_on():
     asked = iter([False] * 200)
     slots = [(f"{hour:02}:00", 200 + hour) for hour in range(24)]
     day = planning.day(read(HARBOUR), slots, stop=lambda: next(asked, True))
+    last = planning.day(read(HARBOUR), slots[:1], stop=lambda: True)
+    assert last.stopped == "00:00"
     assert day.stopped in [time for time, _ in slots[1:]] and all(slot.answer for slot in day.slots)
     assert f"stopped: from {day.stopped} on little was searched" in report.day_planned(day, 60, day).warnings
     assert planning.day(read(HARBOUR), slots[:2]).stopped == ""
