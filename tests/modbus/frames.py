@@ -258,33 +258,29 @@ def half_a_frame():
         leave(other, "beside half a frame")
 
 
-def places():
-    """How many clients are served at once; the next one is closed, and those before it are served on."""
-    clients = []
-    while True:
-        client = connected()
-        request, answer = pair(reading(0, REGISTERS))
-        try:
-            client.sendall(request)
-            came = taken(client, len(answer))
-        except (BrokenPipeError, ConnectionResetError):
-            came = b""
-        if came != answer:
-            break
-        clients.append(client)
-    expect(came == b"", "a client too many gets a part of an answer")
-    client.close()
-    for client in clients:
-        ask(client, "the clients beside one too many")
-    for client in clients:
-        leave(client, "many clients")
-    return len(clients)
+def closed(client):
+    """Whether the server has closed a connection."""
+    try:
+        return taken(client, 1) == b""
+    except ConnectionResetError:
+        return True
 
 
 def limit():
-    for _ in range(2):
-        count = places()
-        expect(count == CLIENTS, f"{count} clients are served at once")
+    """So many clients are served at once; the next one gets the place of the one that has been silent for longest, and so on."""
+    for silent in (0, 5, CLIENTS - 1):
+        clients = [connected() for _ in range(CLIENTS)]
+        for client in clients:
+            ask(client, "as many clients as there are places")
+        for client in clients[:silent] + clients[silent + 1 :]:
+            ask(client, "all clients but one")
+        further = connected()
+        ask(further, "a client more than there are places")
+        expect(closed(clients.pop(silent)), "the client that was silent for longest keeps its place")
+        for client in [*clients, further]:
+            ask(client, "the clients beside one that had to go")
+        for client in [*clients, further]:
+            leave(client, "many clients")
 
 
 # ---- clients that do not read, or hang up
@@ -384,11 +380,13 @@ def garbage():
 
 
 def recovers():
-    """Once the server has noticed who is gone, every place is free."""
-    until = time.monotonic() + PATIENCE
-    while places() != CLIENTS:
-        expect(time.monotonic() < until, "clients that are gone keep their places")
-        time.sleep(0.05)
+    """Clients that are gone keep no place: as many as there are places come, and all are served on."""
+    clients = [connected() for _ in range(CLIENTS)]
+    for _ in range(2):
+        for client in clients:
+            ask(client, "after clients that are gone")
+    for client in clients:
+        leave(client, "after clients that are gone")
 
 
 # ---- the connection itself
