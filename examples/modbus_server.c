@@ -322,7 +322,7 @@ static int listening_socket(const struct addrinfo *found)
     return -1;
 }
 
-/* The port that a socket is bound to; 0 port numbers were free to choose. */
+/* The port that a socket is bound to; where port 0 was asked for, the system has chosen it. */
 static unsigned port_of(int listening)
 {
     struct sockaddr_storage address;

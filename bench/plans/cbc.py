@@ -23,7 +23,7 @@ from pathlib import Path
 
 from shahfureel import library, planning, site_of_case
 from shahfureel.exact import LINEAR_LOSS
-from shahfureel.improving import balanced, exchanged, lowered
+from shahfureel.improving import balanced, exchanged, lowered, reach_of
 from shahfureel.units import STEP, total_net, unit_of
 from table import group_of
 
@@ -90,8 +90,7 @@ def covering(units, values, target):
 def exchanged_pairs(units, outputs, target):
     """As a plan exchanges them."""
     regions = [unit.region(p) for unit, p in zip(units, outputs)]
-    reach = max(3, min(100, 4_000 // (sum(1 for p in outputs if p) ** 2 + 1)))
-    return [outputs, *exchanged(units, regions, outputs, target, reach)][-1]
+    return [outputs, *exchanged(units, regions, outputs, target, reach_of(outputs))][-1]
 
 
 def measured(path, seconds):

@@ -183,13 +183,7 @@ def floors(site: Site, demand: int, demands: Sequence[int] | None = None) -> lis
 
 def covers(site: Site, demand: int, previous: Sequence[int] | None = None) -> bool:
     """Whether the sets can cover a demand."""
-    try:
-        library.dispatch(site.pack(demand, previous))
-    except Refusal as refusal:
-        if refusal.number != Number.NO_ALLOCATION:
-            raise
-        return False
-    return True
+    return library.if_covered(lambda: library.dispatch(site.pack(demand, previous))) is not None
 
 
 # ---- a day

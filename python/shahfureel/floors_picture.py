@@ -10,7 +10,6 @@ from . import answers, library
 from .answers import Answer
 from .drawing import DASHED, INK, PANEL, REFUSED_FILL, REFUSED_INK, check, counted, legend, written
 from .exact import decimal, shown
-from .library import Number, Refusal
 from .site import Site
 
 if TYPE_CHECKING:
@@ -56,7 +55,7 @@ def compare(site: Site, demand: int, demands: Sequence[int] | None) -> Compared:
     return Compared(
         decimal(demand, 1),
         answers.floors(site, demand, grid),
-        [(decimal(steps, 1), _dispatched(site, steps)) for steps in asked],
+        [(decimal(steps, 1), library.if_covered(lambda: answers.dispatch(site, steps))) for steps in asked],
         len(site.sets),
     )
 
@@ -65,15 +64,6 @@ def _grid(first: int, last: int, needed: Sequence[int]) -> list[int]:
     """Demands from the first to the last, as far apart as the next, and those that are needed."""
     apart = -(-(last - first) // (DEMANDS_DRAWN - 2)) or 1
     return sorted({*needed, *range(first, last, apart), last})
-
-
-def _dispatched(site: Site, demand: int) -> Answer | None:
-    try:
-        return answers.dispatch(site, demand)
-    except Refusal as refusal:
-        if refusal.number != Number.NO_ALLOCATION:
-            raise
-        return None
 
 
 def _floors(compared: Compared) -> Figure:

@@ -61,12 +61,10 @@ class Given:
 
     def covered(self, ask: Callable[[], Report]) -> Report:
         """An answer, or the refusal in words where nothing covers the demand."""
-        try:
-            return ask()
-        except Refusal as refusal:
-            if refusal.number != library.Number.NO_ALLOCATION:
-                raise
-            raise Refused(list(answers.why_not_covered(self.site, self.needed())), refusal.number, self.notes) from None
+        answer = library.if_covered(ask)
+        if answer is None:
+            raise Refused(list(answers.why_not_covered(self.site, self.needed())), library.Number.NO_ALLOCATION, self.notes)
+        return answer
 
 
 class Taken(Given):

@@ -56,6 +56,11 @@ def lowered(units: Sequence[Unit], regions: Sequence[Run], outputs: Sequence[int
     return found
 
 
+def reach_of(outputs: Sequence[int]) -> int:
+    """How many steps a unit moves at most in an exchange: the fewer units run, the more."""
+    return max(3, min(100, 4_000 // (sum(1 for p in outputs if p) ** 2 + 1)))
+
+
 def exchanged(
     units: Sequence[Unit], regions: Sequence[Run], outputs: Sequence[int], target: int, reach: int
 ) -> Iterator[list[int]]:

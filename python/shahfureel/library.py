@@ -18,7 +18,7 @@ from dataclasses import dataclass
 from enum import IntEnum
 from itertools import chain
 from pathlib import Path
-from typing import Any, Iterable, Sequence
+from typing import Any, Callable, Iterable, Sequence, TypeVar
 
 NAME = "libshahfureel.so"
 VARIABLE = "SHAHFUREEL_LIBRARY"
@@ -90,6 +90,19 @@ class Refusal(Exception):
         self.name = _NAMES.get(number, "UNKNOWN")
         self.text = refusal_text(number)
         super().__init__(f"refused with {number}: {self.text}")
+
+
+_Answer = TypeVar("_Answer")
+
+
+def if_covered(ask: Callable[[], _Answer]) -> _Answer | None:
+    """What a call answers; None where it is refused because nothing covers the demand."""
+    try:
+        return ask()
+    except Refusal as refusal:
+        if refusal.number != Number.NO_ALLOCATION:
+            raise
+        return None
 
 
 class NoLibrary(Exception):

@@ -17,7 +17,7 @@ from math import isqrt
 from typing import Sequence
 
 from . import library
-from .library import Number, Refusal, Reply
+from .library import Reply
 from .units import Run, Unit, unit_of
 
 COSTS_MAX = (1_000_000_000, 10_000_000, 1_000)  # of c0, c1 and c2 in a case file
@@ -202,11 +202,8 @@ def bound(case: Rows, part: Part, shift: Shift, near: Sequence[int], budget: int
         return None
     if not replaces(case, other, part, shift):
         raise AssertionError("the case made for a part is none that the proof speaks of")
-    try:
-        reply = library.refine(other.pack(), budget)
-    except Refusal as refusal:
-        if refusal.number != Number.NO_ALLOCATION:
-            raise
+    reply = library.if_covered(lambda: library.refine(other.pack(), budget))
+    if reply is None:
         return Bound(EVERYTHING)  # rule 26.6
     (fewest, most), farthest = part.running, part.total[1]
     credit = reply.cost - reply.gap + shift.credit * fewest

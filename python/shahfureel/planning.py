@@ -16,8 +16,8 @@ from typing import Callable, Iterator, Sequence
 from . import answers, library
 from .answers import Answer, PlannedDay, PlannedSlot
 from .exact import LINEAR_LOSS, MONEY_PLACES, POWER, decimal, units
-from .improving import balanced, exchanged, lowered
-from .library import Number, Refusal, Reply
+from .improving import balanced, exchanged, lowered, reach_of
+from .library import Refusal, Reply
 from .parts import EVERYTHING, Bound, Part, Rows, Shift, bound, by_output, by_running, by_total, whole
 from .shifts import Climb
 from .site import Site
@@ -75,16 +75,14 @@ def day(site: Site, slots: Sequence[tuple[str, int]], effort: int = SLOT_EFFORT,
     previous = [one.row()[6] for one in site.sets]
     starts, total, stopped = [0] * len(previous), decimal(0, MONEY_PLACES), ""
     for time, demand in slots:
-        try:
-            answer = plan(site.after(previous), demand, effort, stop).answer
-        except Refusal as refusal:
-            if refusal.number != Number.NO_ALLOCATION:
-                raise
+        here = site.after(previous)
+        found = library.if_covered(lambda: plan(here, demand, effort, stop))
+        stopped = stopped or (time if stop() else "")
+        if found is None:
             why = "; ".join(answers.why_not_covered(site, demand, previous, "from their outputs before, "))
             planned.append(PlannedSlot(time, decimal(demand, 1), None, why))
             continue
-        finally:
-            stopped = stopped or (time if stop() else "")
+        answer = found.answer
         planned.append(PlannedSlot(time, answer.demand, answer))
         outputs = [POWER.units(mw) for mw in answer.outputs.values()]
         starts = [before + (not last and now > 0) for before, last, now in zip(starts, previous, outputs)]
@@ -155,10 +153,9 @@ class _Search:
         found = lowered(self.units, regions, start, self.target)
         self.left -= TRIED * (sum(start) - sum(found))
         if total_cost(self.units, found) * NEAR < self.cost * (NEAR + 1):
-            pairs = sum(1 for p in found if p) ** 2
-            reach = max(3, min(100, 4_000 // (pairs + 1)))
-            for found in exchanged(self.units, regions, found, self.target, reach):
-                self.left -= TRIED * 2 * reach * pairs
+            tried = TRIED * 2 * reach_of(found) * sum(1 for p in found if p) ** 2
+            for found in exchanged(self.units, regions, found, self.target, reach_of(found)):
+                self.left -= tried
                 if self.ended():
                     break
         self.consider(found)
