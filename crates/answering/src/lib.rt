@@ -1,4 +1,6 @@
 // What start, advance and ask of a run answer in C: a number, and answers in a lent list (rule 23.4 of docs/SPECIFICATION.md).
+#![tactic(auto)]
+
 ghost use Rattle.std.specs.Prelude.{◌≡◌, map, ◌≤◌, pos, length};
 ghost use Rattle.rules.specs.Lists.{over};
 ghost use Rattle.stepping.specs.Runs.{asked};

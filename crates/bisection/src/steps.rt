@@ -8,7 +8,7 @@ use evaluation::{Evaluated, Sums};
 use lowering::lower;
 
 // Outputs of the units, with their cost and net together.
-#[derive(Drop)]
+#[derive(Clone, Copy)]
 pub struct Allocation {
     pub outputs: [u16; 32],
     pub cost: u64,
@@ -16,7 +16,7 @@ pub struct Allocation {
 }
 
 // What a search found: its best allocation, the greatest floor, and the number of evaluations.
-#[derive(Drop)]
+#[derive(Clone, Copy)]
 pub struct Found {
     pub best: Allocation,
     pub floor: i64,
@@ -45,7 +45,7 @@ fn note(trace: &mut [i64], k: u16, m: u64, dual: i64)
 // Where a search stands between two evaluations: the best and the greatest floor so far, and the number of evaluations made. The
 // next one is of `low` + `width` modulo 131,072: the first width is 131,072, so the first multiplier is 0. A finished search has width
 // 0. It may make `most` evaluations in all.
-#[derive(Drop)]
+#[derive(Clone, Copy)]
 pub struct SearchState {
     pub best: Allocation,
     pub floor: i64,

@@ -1,5 +1,7 @@
 // Reading a unit from a body of a file (rules 2.6 and 2.10 of docs/SPECIFICATION.md). Edition 2 has b1 before the edges; all else
 // is as in edition 1.
+#![tactic(auto)]
+
 ghost use Rattle.std.specs.Prelude.{◌≡◌, ◌+◌, ◌≤◌, length};
 ghost use Rattle.fields.specs.Field.{field};
 ghost use Rattle.rules.specs.Lists.{each};

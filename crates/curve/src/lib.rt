@@ -1,5 +1,7 @@
 // One unit of a decoded site (crate `site`) at an output: its cost, its net, and its priced cost at a multiplier as a curve. Each number
 // is in range on 64 bits and equal to what crate `rules` defines.
+#![tactic(auto)]
+
 ghost use Rattle.std.specs.Prelude.{◌≡◌, ◌≤◌};
 ghost use Rattle.rules.specs.Unit.{Unit, cost, net};
 ghost use Rattle.site.specs.Site.{Coefficients};
@@ -7,7 +9,7 @@ ghost use Rattle.curve.specs.Curve.{height, InRange, IsCurve};
 ghost use Rattle.curve.specs.Clauses.{AtOutput, AtMultiplier};
 
 // A unit's priced cost at a multiplier: square × p × p + linear × p + constant at a running output p.
-#[derive(Drop)]
+#[derive(Clone, Copy)]
 pub struct Curve {
     pub square: u64,
     pub linear: i64,

@@ -1,6 +1,8 @@
 // A day ahead, slot by slot (section 21 of docs/SPECIFICATION.md). The histories of the sets are a lent list of records: thin functions
 // copy their columns out before a slot and back after it; the slot itself works on plain arrays. A slot is the case's units with other
 // previous outputs and another demand, so it is decoded, searched and stated as a case is.
+#![tactic(auto)]
+
 ghost use Rattle.std.specs.Prelude.{◌≡◌, ℕ, ◌≤◌, ◌<◌, length, get_or};
 ghost use Rattle.rules.specs.Lists.{over};
 ghost use Rattle.day.specs.Day.{history_after, day_verdict, scheduled, slot_bytes};
@@ -11,28 +13,28 @@ use solving::Reply;
 
 // One set's history: its previous output, in steps, and how often it was started.
 #[repr(C)]
-#[derive(Drop)]
+#[derive(Clone, Copy)]
 pub struct History {
     pub previous: u16,
     pub starts: u16,
 }
 
 // The histories' fields, copied out.
-#[derive(Drop)]
+#[derive(Clone, Copy)]
 pub struct Columns {
     pub previous: [u16; 32],
     pub starts: [u16; 32],
 }
 
 // What a slot gives: the columns after it, and its cost, 0 where it is refused.
-#[derive(Drop)]
+#[derive(Clone, Copy)]
 pub struct SlotEnd {
     pub columns: Columns,
     pub cost: u64,
 }
 
 // What a call opens with: the verdict, the numbers of sets and slots, both 0 after a refusal, and the first columns.
-#[derive(Drop)]
+#[derive(Clone, Copy)]
 pub struct Opening {
     pub verdict: Verdict,
     pub sets: usize,
@@ -41,7 +43,7 @@ pub struct Opening {
 }
 
 // What the call answers: what the solved slots cost together.
-#[derive(Drop)]
+#[derive(Clone, Copy)]
 pub enum Scheduled {
     Total(u64),
     Refused(Refusal),
@@ -107,7 +109,7 @@ fn copy_back(histories: &mut [History], n: usize, f: Columns)
 }
 
 // What is found of a slot: whether it is solved, and then cost, gap and outputs.
-#[derive(Drop)]
+#[derive(Clone, Copy)]
 pub struct Solution {
     pub solved: bool,
     pub cost: u64,

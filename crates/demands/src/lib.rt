@@ -1,5 +1,7 @@
 // Whether a list of demands is one for which a call answers: at most 96 demands, none above 320,000 steps (rule 20.1 of
 // docs/SPECIFICATION.md).
+#![tactic(auto)]
+
 ghost use Rattle.std.specs.Prelude.{◌≡◌};
 ghost use Rattle.rules.specs.Demands.{demands_invalid};
 

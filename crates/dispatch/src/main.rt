@@ -1,4 +1,6 @@
 // Reads a case file from standard input and prints its dispatch, or `refused` and the number of the refusal.
+#![tactic(auto)]
+
 ghost use Rattle.std.specs.Prelude.{◌≡◌, ◌≤◌, length};
 ghost use Rattle.rules.specs.Lists.{over};
 ghost use Rattle.text.specs.Text.{printed};
@@ -6,7 +8,7 @@ ghost use Rattle.text.specs.Text.{printed};
 use libc::{STDERR_FILENO, STDIN_FILENO, STDOUT_FILENO};
 
 // How many bytes were read, and whether a read failed.
-#[derive(Drop)]
+#[derive(Clone, Copy)]
 struct Input {
     length: usize,
     failed: bool,

@@ -1,4 +1,6 @@
 // Dispatch, from a case file's bytes to the reply's: check and decode, solve (crate `solving`), write.
+#![tactic(auto)]
+
 ghost use Rattle.std.specs.Prelude.{◌≡◌, ◌≤◌, length};
 ghost use Rattle.rules.specs.Refusal.{file_verdict};
 ghost use Rattle.rules.specs.Calls.{dispatched};

@@ -1,5 +1,7 @@
 // All units of a decoded site (crate `site`) together: their choices (crate `choice`) with the sums, the dual value and its floor; and
 // step 1, on the arrays and from a file's bytes. Each number is in range on 64 bits and equal to what crate `rules` defines.
+#![tactic(auto)]
+
 mod step_one;
 mod totals;
 
@@ -8,7 +10,7 @@ pub use step_one::{first_best, step1};
 pub use totals::{dual_of, evaluate, floor_of};
 
 // Cost and net of outputs together.
-#[derive(Drop)]
+#[derive(Clone, Copy)]
 pub struct Sums {
     pub cost: u64,
     pub net: u64,
@@ -16,7 +18,7 @@ pub struct Sums {
 
 // What an evaluation gives besides its arrays: cost and net of the choices together, and how many units tie; it is promised that 0 is
 // given only where no unit has a lower tied output.
-#[derive(Drop)]
+#[derive(Clone, Copy)]
 pub struct Evaluated {
     pub cost: u64,
     pub net: u64,
@@ -25,7 +27,7 @@ pub struct Evaluated {
 
 // What checking, decoding and step 1 give besides the arrays: the number of units, the net that covers the demand, and the cost
 // and net of the greatest outputs, the first best.
-#[derive(Drop)]
+#[derive(Clone, Copy)]
 pub enum FirstBest {
     Found {
         count: usize,

@@ -1,5 +1,7 @@
 // Big-endian numbers of 16, 32 and 64 bits in byte slices. One loop reads and one loop writes a number of any width up to
 // eight bytes; the functions at a width are calls of them. A signed number is in two's complement.
+#![tactic(auto)]
+
 ghost use Rattle.std.specs.Prelude.{◌≡◌, ◌+◌, ◌≤◌, ◌<◌, ◌^◌, length};
 ghost use Rattle.fields.specs.Field.{field, unsigned, signed_field, written};
 

@@ -1,5 +1,7 @@
 // Buffers in which every byte is 0xA5, as the runner lends them, and whether the rest of one is so still: no call ever touches the
 // rest, so that the runner's output would not show if this were wrong.
+#![tactic(auto)]
+
 ghost use Rattle.std.specs.Prelude.{◌≡◌, map, eqb, pos, ◌-ℤ◌, length, replicate, drop};
 ghost use Rattle.std.specs.Int.{w64};
 ghost use Rattle.std.proofs.Common.{of_z};

@@ -1,6 +1,8 @@
 // One row of a MATPOWER `gencost` matrix, a quadratic cost as text, read into the cost coefficients of a unit: exactly, or not at
 // all (section 25 of docs/SPECIFICATION.md). The digits may be as many as the row has room for, so a number is held at one above its
 // limit, and its decimals are placed by powers of ten: no large number is computed.
+#![tactic(auto)]
+
 ghost use Rattle.std.specs.Prelude.{◌≡◌, Bool, ◌||◌, ◌++◌, ◌+◌, ◌^◌, ◌≤◌, length};
 ghost use Rattle.gencost.specs.Row.{number_after, gencost_read};
 ghost use Rattle.gencost.specs.Clauses.{passes, class_end, word_end, Digits, held, valued, scanned, number_behind, only_behind, Small, HeadEnd, judged};
@@ -8,14 +10,14 @@ ghost use Rattle.gencost.specs.Clauses.{passes, class_end, word_end, Digits, hel
 use rules::Refusal;
 
 // The coefficients of a unit, or why there are none.
-#[derive(Drop)]
+#[derive(Clone, Copy)]
 pub enum Costs {
     Read { c2: u32, c1: u32, c0: u32 },
     Refused(Refusal),
 }
 
 // Classes of characters: space and tab, all others, `0` to `9`, `0`.
-#[derive(Drop)]
+#[derive(Clone, Copy)]
 enum Class {
     Blank,
     Other,
@@ -24,21 +26,21 @@ enum Class {
 }
 
 // A number of the row in a coefficient's unit: how much it is, up to one above the limit, and whether that is exact.
-#[derive(Drop)]
+#[derive(Clone, Copy)]
 struct Number {
     result: u64,
     whole: bool,
 }
 
 // A word as a number.
-#[derive(Drop)]
+#[derive(Clone, Copy)]
 enum Scanned {
     Decimal(Number),
     Malformed,
 }
 
 // The next word as a number, and where it ends.
-#[derive(Drop)]
+#[derive(Clone, Copy)]
 enum Next {
     Number { number: Number, end: usize },
     Malformed,

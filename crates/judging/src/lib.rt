@@ -1,6 +1,8 @@
 // Outputs that someone keys in, judged: whether they are permitted and cover the demand, and then what they cost and how far that
 // is above the greatest floor (section 19 of docs/SPECIFICATION.md). The greatest floor of all multipliers is that of those which
 // the search evaluates, so that a judgement takes as long as a dispatch.
+#![tactic(auto)]
+
 ghost use Rattle.std.specs.Prelude.{◌≡◌, ◌&&◌, ◌<◌, leb, length};
 ghost use Rattle.bisection.specs.Clauses.{FirstHeld};
 ghost use Rattle.judging.specs.Judging.{judged};
@@ -11,7 +13,7 @@ use evaluation::FirstBest;
 use rules::Refusal;
 
 // What is answered of the outputs.
-#[derive(Drop)]
+#[derive(Clone, Copy)]
 pub enum Judged {
     Accepted {
         cost: u64,
@@ -23,7 +25,7 @@ pub enum Judged {
 }
 
 // Cost and net of outputs together, if each is permitted.
-#[derive(Drop)]
+#[derive(Clone, Copy)]
 pub enum Summed {
     Permitted { cost: u64, net: u64 },
     NotPermitted,

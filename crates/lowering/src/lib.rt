@@ -1,4 +1,6 @@
 // Choices that cover, lowered: the units one by one, each where all together then still cover (rule 10.4 of docs/SPECIFICATION.md).
+#![tactic(auto)]
+
 ghost use Rattle.lowering.specs.Clauses.{UnitLowerable, LowersUnit, Lowerable, Lowers};
 
 use evaluation::Sums;

@@ -1,5 +1,7 @@
 // A dispatch's reply as Modbus holding registers: a request for registers, without its transport, is answered from the reply's
 // bytes (rules 18.1 to 18.7).
+#![tactic(auto)]
+
 ghost use Rattle.std.specs.Prelude.{◌≡◌, Bool, ◌+◌, ◌*◌, ◌≤◌, ◌<◌, length, take, drop};
 ghost use Rattle.rules.specs.Lists.{over};
 ghost use Rattle.modbus.specs.View.{exception_to, with_top_bit, exception_answer, normal_answer, malformed, viewed};
@@ -8,7 +10,7 @@ ghost use Rattle.modbus.specs.Clauses.{AnswerWritten};
 use rules::Refusal;
 
 // What the view answers: the length of the answer that it wrote.
-#[derive(Drop)]
+#[derive(Clone, Copy)]
 pub enum Viewed {
     Answered(usize),
     Refused(Refusal),

@@ -2,6 +2,8 @@
 // of the node's choices, they often suffice: a floor that reaches the best cost closes the node, and where the lower one does not cover
 // and the upper one does, without a tie, the node's dispatch is the choices of the upper one. Else it is dispatched. (Closed is the
 // field's fathomed, or pruned, by bound.)
+#![tactic(auto)]
+
 ghost use Rattle.std.specs.Prelude.{◌≡◌, true, ◌+◌, ◌≤◌, ◌<◌, max};
 ghost use Rattle.rules.specs.Numbers.{natural};
 ghost use Rattle.evaluation.specs.Clauses.{SiteHeld, Dualable};
@@ -14,7 +16,7 @@ use sums::Totals;
 
 // What a search has: how many nodes are evaluated; cost and surplus of the best outputs, which stand in a lent array; and the least
 // floor among the nodes that are not replaced by children, of which only what lies below the best cost means something.
-#[derive(Drop)]
+#[derive(Clone, Copy)]
 pub struct Progress {
     pub visited: u32,
     pub cost: u64,
@@ -23,7 +25,7 @@ pub struct Progress {
 }
 
 // What stays the same in a search: the number of units, the net that covers the demand, and how many nodes may be evaluated.
-#[derive(Drop)]
+#[derive(Clone, Copy)]
 pub struct Limits {
     pub count: usize,
     pub target: u64,
@@ -32,7 +34,7 @@ pub struct Limits {
 
 // A node besides the arrays: its parent's floor, and a multiplier below the greatest with the sums of the node's choices at it and at
 // the next one.
-#[derive(Drop)]
+#[derive(Clone, Copy)]
 pub struct Node {
     pub parent: u64,
     pub multiplier: u64,
@@ -42,7 +44,7 @@ pub struct Node {
 
 // What the evaluation of a node gives besides the best outputs: `seen` if it is neither closed nor without an allocation, which only
 // counts; then its floor; a multiplier for its parts; and what the search then has.
-#[derive(Drop)]
+#[derive(Clone, Copy)]
 pub struct NodeEvaluation {
     pub seen: bool,
     pub floor: u64,
@@ -51,7 +53,7 @@ pub struct NodeEvaluation {
 }
 
 // What a node's dispatch is known by besides its outputs; and a multiplier for the node's parts.
-#[derive(Drop)]
+#[derive(Clone, Copy)]
 struct Dispatch {
     cost: u64,
     surplus: u64,
@@ -59,7 +61,7 @@ struct Dispatch {
     multiplier: u64,
 }
 
-#[derive(Drop)]
+#[derive(Clone, Copy)]
 struct Searched {
     dispatch: Dispatch,
     outputs: [u16; 32],

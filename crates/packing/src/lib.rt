@@ -1,4 +1,6 @@
 // Packing: the case file of a demand, planner's rows and, in edition 2, a b1 for each of them. Every check comes before the first write.
+#![tactic(auto)]
+
 ghost use Rattle.std.specs.Prelude.{◌≡◌, ◌++◌, ◌+◌, ◌*◌, ◌≤◌, length};
 ghost use Rattle.fields.specs.Field.{bytes, bytes_of_each};
 ghost use Rattle.rules.specs.Lists.{each, over};

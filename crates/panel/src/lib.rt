@@ -1,6 +1,8 @@
 // The panel's calls, as C sees them: a slice is a pointer and then a length, an answer is a number. Each does what the call on
 // slices does and tells its answer in numbers (rules 14.1 to 14.4, 18.8, 19.7, 20.8, 21.9, 23.4, 24.11, 25.13). `include/shahfureel.h`
 // declares them.
+#![tactic(auto)]
+
 ghost use Rattle.std.specs.Prelude.{◌≡◌, cond, [], ◌∷◌, ℕ, ◌≤◌, pos, length};
 ghost use Rattle.answering.specs.Answers.{panel_started, panel_advanced, panel_asked};
 ghost use Rattle.branching.specs.Refining.{panel_refined};

@@ -1,4 +1,6 @@
 // The pricing call: the dual value of a multiplier for a case file, and whether its choices cover the demand.
+#![tactic(auto)]
+
 ghost use Rattle.std.specs.Prelude.{◌≡◌};
 ghost use Rattle.rules.specs.Calls.{priced};
 

@@ -8,7 +8,7 @@ use nodes::Node;
 use sums::Totals;
 
 // One unit's terms of a node's sums: at a multiplier, and at the next one.
-#[derive(Drop)]
+#[derive(Clone, Copy)]
 pub struct UnitTerms {
     pub low: Totals,
     pub high: Totals,

@@ -1,5 +1,7 @@
 // Refine, from a case file's bytes to the reply's: a dispatch by branch and bound within a budget of nodes (rules 24.1 to 24.11 of
 // docs/SPECIFICATION.md). Check and decode, visit the nodes from the root on (`visiting`), write.
+#![tactic(auto)]
+
 ghost use Rattle.std.specs.Prelude.{◌≡◌};
 ghost use Rattle.branching.specs.Refining.{refined};
 

@@ -8,7 +8,7 @@ use crate::visiting::lower_of;
 use nodes::Progress;
 
 // What the reply states, besides the number of units.
-#[derive(Drop)]
+#[derive(Clone, Copy)]
 pub struct Refined {
     pub nodes: u32,
     pub cost: u64,

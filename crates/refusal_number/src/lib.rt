@@ -1,4 +1,6 @@
 // The number of each refusal (rule 4.2 of docs/SPECIFICATION.md), apart from the rules: an edit of a rule does not pay for it.
+#![tactic(auto)]
+
 ghost use Rattle.std.specs.Prelude.{◌≡◌};
 ghost use Rattle.rules.specs.Refusal.{number_of};
 

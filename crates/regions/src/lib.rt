@@ -1,5 +1,7 @@
 // A checked unit's permitted outputs as regions, found once: 0..0 if it may stand, then what zones and ramp window leave. From here
 // on an output is a 16-bit number, until it is multiplied.
+#![tactic(auto)]
+
 ghost use Rattle.std.specs.Prelude.{◌≡◌, ℕ, ◌+◌, ◌*◌, ◌≤◌, ◌<◌, max, min, length, get_or};
 ghost use Rattle.rules.specs.Sound.{Sound};
 ghost use Rattle.unit.specs.UnitHeld.{unit_held};
@@ -8,7 +10,7 @@ ghost use Rattle.regions.specs.Clauses.{Ramped, RegionsWritten};
 use unit::Unit;
 
 // The running outputs that the ramp limits leave.
-#[derive(Drop)]
+#[derive(Clone, Copy)]
 struct Window {
     from: u16,
     to: u16,

@@ -1,7 +1,9 @@
 // The answers of the public calls. What they mean is docs/SPECIFICATION.md as definitions, in specs/.
 
 // Why a call refuses. Each has a number (rule 4.2): `Refusal.number_of` in specs/, `refusal_number::number` in code.
-#[derive(Drop)]
+#![tactic(auto)]
+
+#[derive(Clone, Copy)]
 pub enum Refusal {
     // A reply under 92 bytes, rows under 608 numbers, or a panel's answers under two.
     BufferTooShort,
@@ -61,35 +63,35 @@ pub enum Refusal {
 }
 
 // What checking finds.
-#[derive(Drop)]
+#[derive(Clone, Copy)]
 pub enum Verdict {
     Accepted,
     Refused(Refusal),
 }
 
 // What dispatch answers: the length of the reply that it wrote.
-#[derive(Drop)]
+#[derive(Clone, Copy)]
 pub enum Dispatched {
     Replied(usize),
     Refused(Refusal),
 }
 
 // What pricing answers: the dual value, and whether the choices cover the demand.
-#[derive(Drop)]
+#[derive(Clone, Copy)]
 pub enum Priced {
     Valued { dual: i64, covers: bool },
     Refused(Refusal),
 }
 
 // What packing answers: the length of the case file that it wrote.
-#[derive(Drop)]
+#[derive(Clone, Copy)]
 pub enum Packed {
     Written(usize),
     Refused(Refusal),
 }
 
 // What unpacking answers: the demand, and the number of rows that it wrote.
-#[derive(Drop)]
+#[derive(Clone, Copy)]
 pub enum Unpacked {
     Read { demand: u32, count: u32 },
     Refused(Refusal),

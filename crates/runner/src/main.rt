@@ -1,5 +1,7 @@
 // Puts the cases of its standard input through the public calls and prints each answer in full.
 // tests/second_solver/README.md has the format of the input; the expected output is what the second solver wrote.
+#![tactic(auto)]
+
 ghost use Rattle.std.specs.Prelude.{◌≡◌, length};
 
 mod calling;

@@ -1,5 +1,7 @@
 // Floors for other demands than the case's: how far a forecast error moves the bill, at least (section 20 of docs/SPECIFICATION.md).
 // One search gives the multipliers and their dual values; each demand then takes one look at these.
+#![tactic(auto)]
+
 ghost use Rattle.std.specs.Prelude.{◌≡◌, ◌*◌, ◌≤◌, pos, ◌-ℤ◌, length};
 ghost use Rattle.sensitivity.specs.Floors.{floored};
 ghost use Rattle.sensitivity.specs.Clauses.{Shifted, Traced, GreatestDual, FloorsWritable, FloorsWritten};
@@ -9,7 +11,7 @@ use evaluation::FirstBest;
 use rules::Refusal;
 
 // How many floors were written, or why none were.
-#[derive(Drop)]
+#[derive(Clone, Copy)]
 pub enum Floored {
     Written(usize),
     Refused(Refusal),

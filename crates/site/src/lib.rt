@@ -4,13 +4,15 @@
 //                 then those that zones and ramp window leave, ascending. What stands in the others means nothing;
 //   ranges        the first and the last region of unit i, from 2 × i on.
 // `specs/Site` says which problem of the rules they hold.
+#![tactic(auto)]
+
 mod decoding;
 
 pub use decoding::{decode, decode_with, write_unit};
 use rules::Refusal;
 
 // What decoding gives besides the arrays: the number of units and the net that covers the demand.
-#[derive(Drop)]
+#[derive(Clone, Copy)]
 pub enum Decoded {
     Site { count: usize, target: u64 },
     Refused(Refusal),

@@ -1,5 +1,7 @@
 // The solution of a problem whose arrays are decoded, as a reply states it, before it is bytes: the search (crate `bisection`), and cost,
 // gap and surplus of what it found; with step 1 before it, of any problem that the arrays hold.
+#![tactic(auto)]
+
 ghost use Rattle.bisection.specs.Clauses.{FirstHeld, Searchable};
 ghost use Rattle.solving.specs.Clauses.{Stateable, States, Solves, HoldsSolution};
 
@@ -7,7 +9,7 @@ use bisection::{Allocation, Found};
 use evaluation::FirstBest;
 
 // What the reply states, besides the number of units.
-#[derive(Drop)]
+#[derive(Clone, Copy)]
 pub struct Reply {
     pub evaluations: u16,
     pub cost: u64,
@@ -17,7 +19,7 @@ pub struct Reply {
 }
 
 // What a problem has: whether an allocation covers its demand, and then the reply.
-#[derive(Drop)]
+#[derive(Clone, Copy)]
 pub struct Solution {
     pub solvable: bool,
     pub reply: Reply,

@@ -2,6 +2,8 @@
 // docs/SPECIFICATION.md). A run is 41 numbers that the caller lends: started, finished, evaluations, low, cost, surplus, floor, count,
 // length, and 32 outputs; and 1,608 bytes, of which the first `length` are the file of its last accepted start. A run whose numbers
 // do not fit together is not started; an advance checks and decodes the case anew, and nothing is decoded from the run.
+#![tactic(auto)]
+
 ghost use Rattle.std.specs.Prelude.{◌≡◌, cond, eqb, ◌-◌, ◌≤◌, take};
 ghost use Rattle.stepping.specs.declared.State.{State};
 ghost use Rattle.std.proofs.Math.ListN as lists;
@@ -16,14 +18,14 @@ use numbers::Numbers;
 use rules::Refusal;
 
 // Whether a run was started, or why not.
-#[derive(Drop)]
+#[derive(Clone, Copy)]
 pub enum Started {
     Begun,
     Refused(Refusal),
 }
 
 // Where a run stands after an advance, or why it was not made.
-#[derive(Drop)]
+#[derive(Clone, Copy)]
 pub enum Advanced {
     Unfinished,
     Finished,
@@ -32,7 +34,7 @@ pub enum Advanced {
 }
 
 // Where a run stands.
-#[derive(Drop)]
+#[derive(Clone, Copy)]
 pub enum State {
     NotStarted,
     Unfinished,
@@ -40,7 +42,7 @@ pub enum State {
 }
 
 // What a run has so far: all that a reply tells.
-#[derive(Drop)]
+#[derive(Clone, Copy)]
 pub struct Asked {
     pub state: State,
     pub count: u16,

@@ -5,7 +5,7 @@ ghost use Rattle.stepping.specs.Runs.{run_in, numbers_of, width_at, begun, stage
 ghost use Rattle.stepping.specs.Clauses.{run_of};
 
 // The numbers of a started run.
-#[derive(Drop)]
+#[derive(Clone, Copy)]
 pub struct Numbers {
     pub finished: u64,
     pub evaluations: u64,

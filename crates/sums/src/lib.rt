@@ -1,5 +1,7 @@
 // Cost and net of the choices of a decoded site (crate `site`) at a multiplier together, and how many units tie; of one unit, and of all.
 // So a site in which one unit's regions are changed has its sums without another look at the other units.
+#![tactic(auto)]
+
 ghost use Rattle.std.specs.Prelude.{cond, ◌≡◌, ◌+◌, ◌-◌};
 ghost use Rattle.evaluation.specs.Clauses.{Evaluable};
 ghost use Rattle.sums.specs.Sums.{TermHeld, Terms, Sums, Exchangeable};
@@ -8,7 +10,7 @@ use choice::choose;
 use curve::{cost_of, curve_of, net_of};
 
 // Cost and net together, and how many units have a lower output that ties with their choice.
-#[derive(Drop)]
+#[derive(Clone, Copy)]
 pub struct Totals {
     pub cost: u64,
     pub net: u64,

@@ -1,4 +1,6 @@
 // What a cost row gives in C: a number, and answers in a lent list (rule 25.13 of docs/SPECIFICATION.md).
+#![tactic(auto)]
+
 ghost use Rattle.std.specs.Prelude.{◌≡◌, ◌≤◌, length};
 ghost use Rattle.telling.specs.Told.{number_of_costs, answers_of_costs};
 

@@ -1,4 +1,6 @@
 // The text of an answer (rules 15.2 to 15.4), built in one buffer. Each function puts bytes from a place on and gives the next place.
+#![tactic(auto)]
+
 ghost use Rattle.std.specs.Prelude.{◌≡◌, ◌++◌, ◌+◌, ◌-◌, ◌*◌, ◌/◌, ◌≤◌, ◌<◌, length};
 ghost use Rattle.fields.specs.Field.{field};
 ghost use Rattle.rules.specs.Lists.{over};

@@ -1,4 +1,6 @@
 // A unit and its checks, refusals 7 to 10 and 18. They serve the bodies of a file and the planner's rows alike.
+#![tactic(auto)]
+
 ghost use Rattle.std.specs.Prelude.{◌≡◌, false, ◌≤◌, eqb, drop};
 ghost use Rattle.rules.specs.Lists.{all};
 ghost use Rattle.rules.specs.Unit.{zones, with_previous};
@@ -8,7 +10,7 @@ ghost use Rattle.unit.specs.UnitHeld.{unit_held};
 use rules::{Refusal, Verdict};
 
 // A unit as the nineteen numbers of a row, and b1, which stands beside the rows or is 0.
-#[derive(Drop)]
+#[derive(Clone, Copy)]
 pub struct Unit {
     pub c0: u32,
     pub c1: u32,

@@ -1,4 +1,6 @@
 // Unpacking: the planner's rows of a case file of edition 1. (A row has no place for b1.)
+#![tactic(auto)]
+
 ghost use Rattle.std.specs.Prelude.{◌≡◌, ◌*◌, ◌≤◌, length};
 ghost use Rattle.rules.specs.Lists.{each, over};
 ghost use Rattle.rules.specs.Layout.{row_of_unit, rows_of_units, count, unit_at};

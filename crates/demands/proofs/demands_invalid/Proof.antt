@@ -13,49 +13,49 @@ use Rattle.demands.proofs.demands_invalid.Tie as tie
 abbrev small : ℕ → Bool
 small d = leb d 320000
 
-abbrev invariant-loop : tie.invariant-loop
+abbrev invariant-loop : tie.invariant-loop-i
 invariant-loop demands i₀ i = Passing small demands i
 
-abbrev decreases-loop : tie.decreases-loop
+abbrev decreases-loop : tie.decreases-loop-i
 decreases-loop demands i₀ i = length demands - i
 
-returns : tie.Need-returns invariant-loop decreases-loop
-returns c = rw (lt-ltb 96 (length c.before.args.demands.now) c.if1.true)
+returns : tie.Need-returns-then-demands-gt96 invariant-loop decreases-loop
+returns c = rw (lt-ltb 96 (length c.before.args.demands.now) c.if-demands-gt96.true)
 
-loop-holds : tie.Need-loop-init invariant-loop decreases-loop
+loop-holds : tie.Need-loop-i-init invariant-loop decreases-loop
 loop-holds c = passing_starts small _
 
-mul-if2 : tie.Need-overflow-mul-if2 invariant-loop decreases-loop
+mul-if2 : tie.Need-offset_bounds-demands-i invariant-loop decreases-loop
 mul-if2 c = omega arith
 
-shared-slice-read-if2 : tie.Need-shared-slice-read-if2 invariant-loop decreases-loop
+shared-slice-read-if2 : tie.Need-bounds-demands-i invariant-loop decreases-loop
 shared-slice-read-if2 c = omega arith
 
-returns-2 : tie.Need-returns-2 invariant-loop decreases-loop
+returns-2 : tie.Need-returns-then-demands-i-gt320000 invariant-loop decreases-loop
 returns-2 c =
     let l = c.before.before.before in
     let e = l.before in
     let demands = e.before.args.demands.now in
-    rw (le-ltb 96 (length demands) e.if1.false, passing_fails small demands l.loop.invariant (omega arith) (lt-leb _ 320000 c.if2.true))
+    rw (le-ltb 96 (length demands) e.if-demands-gt96.false, passing_fails small demands l.loop-i.invariant (omega arith) (lt-leb _ 320000 c.if-demands-i-gt320000.true))
 
-add-i : tie.Need-overflow-add-i invariant-loop decreases-loop
+add-i : tie.Need-overflow_add-i invariant-loop decreases-loop
 add-i c = omega arith
 
-loop-less : tie.Need-loop-smaller invariant-loop decreases-loop
+loop-less : tie.Need-loop-i-smaller invariant-loop decreases-loop
 loop-less c = omega arith
 
-loop-again : tie.Need-loop-preserved invariant-loop decreases-loop
-loop-again c = let l = c.before.before.before in passing_more small l.before.before.args.demands.now l.loop.invariant (omega arith) (le-leb (get_or l.before.before.args.demands.now l.loop.i 0) 320000 (omega (arith, c.if2.false)))
+loop-again : tie.Need-loop-i-preserved invariant-loop decreases-loop
+loop-again c = let l = c.before.before.before in passing_more small l.before.before.args.demands.now l.loop-i.invariant (omega arith) (le-leb (get_or l.before.before.args.demands.now l.loop-i.i 0) 320000 (omega (arith, c.if-demands-i-gt320000.false)))
 
-returns-3 : tie.Need-returns-3 invariant-loop decreases-loop
+returns-3 : tie.Need-returns invariant-loop decreases-loop
 returns-3 c =
     let l = c.before in
     let e = l.before in
     let demands = e.before.args.demands.now in
-    rw (le-ltb 96 (length demands) e.if1.false, passing_ends small demands l.loop.invariant (omega arith))
+    rw (le-ltb 96 (length demands) e.if-demands-gt96.false, passing_ends small demands l.loop-i.invariant (omega arith))
 
-pub demands-invalid-spec : {M : Type 1} → statement M
-demands-invalid-spec =
+pub demands_invalid_spec : {M : Type 1} → statement M
+demands_invalid_spec =
     tie.close
     (tie.spec
     invariant-loop

@@ -32,20 +32,20 @@ module _ (n : ℕ) (h : 2147483648 ≤ n) (k : n < 4294967296) where
   upper : to_z w32 (of_z w32 (to_z w64 (of_z w64 (to_z w64 n -ℤ pos 4294967296)))) ≡ signed 4 n
   upper = same (kept_at less-kept w32 (omega arith) (omega arith)) (is-sub n 4294967296) (omega arith) ∙ sym (signed-upper 4 n (omega arith))
 
-returns : tie.Need-returns
-returns c = lower c.before.read_number.result (omega arith) ∙ ap (signed 4) c.before.read_number.ensures.0
+returns : tie.Need-returns-then-n-lt2147483648
+returns c = lower c.before.read_number-n.result (omega arith) ∙ ap (signed 4) c.before.read_number-n.ensures.0
 
-sub-result : tie.Need-overflow-sub-result
-sub-result c = less-fits c.before.read_number.result (omega arith) (omega arith)
+sub-result : tie.Need-overflow_sub-result
+sub-result c = less-fits c.before.read_number-n.result (omega arith) (omega arith)
 
-cast-result-3 : tie.Need-overflow-cast-result-3
-cast-result-3 c = less-fits-32 c.before.read_number.result (omega arith) (omega arith)
+cast-result-3 : tie.Need-overflow_cast-result-3
+cast-result-3 c = less-fits-32 c.before.read_number-n.result (omega arith) (omega arith)
 
-returns-2 : tie.Need-returns-2
-returns-2 c = upper c.before.read_number.result (omega arith) (omega arith) ∙ ap (signed 4) c.before.read_number.ensures.0
+returns-2 : tie.Need-returns
+returns-2 c = upper c.before.read_number-n.result (omega arith) (omega arith) ∙ ap (signed 4) c.before.read_number-n.ensures.0
 
-pub read-i32-spec : {M : Type 1} → statement M
-read-i32-spec =
+pub read_i32_spec : {M : Type 1} → statement M
+read_i32_spec =
     tie.close
     (tie.spec
     (λ c κs. search rules)

@@ -43,34 +43,42 @@ module _ (c : tie.Start) where
   natural : lt_z (to_z w32 (of_z w32 z)) (pos 0) ≡ false → negative_part z ≡ 0
   natural t = omega (arith, when_ge (itself z) (is_pos 0) (rw read at t), one-zero z)
 
-cast-result : tie.Need-overflow-cast-result
+cast-result : tie.Need-overflow_cast-result
 cast-result c = rw (read c.before) (widened-fits (narrow c.before))
 
-add-result : tie.Need-overflow-add-result
+add-result : tie.Need-overflow_add-result
 add-result c = rw (widened (narrow c.before)) (sum_fits c.before)
 
-cast-result-2 : tie.Need-overflow-cast-result-2
+cast-result-2 : tie.Need-overflow_cast-result-then-n-lt0
 cast-result-2 c =
     let s = c.before in
     rw (widened (narrow s), whole s) (not_negative (sum s) (omega (arith, small s)), record { fits = rw (size_is (sum s) (omega (arith, small s))) (omega (arith, fits-up (narrow s))) })
 
-returns : tie.Need-returns
+returns : tie.Need-returns-then-n-lt0
 returns c =
     let s = c.before in
-    let n = negative s c.if1.true in
+    let n = negative s c.if-n-lt0.true in
     rw (widened (narrow s), whole s) (size_is (sum s) (omega (arith, small s)) ∙ omega (arith, unsigned-upper 4 (z s) n, one-zero (z s)))
 
-cast-result-3 : tie.Need-overflow-cast-result-3
+cast-result-3 : tie.Need-overflow_cast-result-2
 cast-result-3 c =
     let s = c.before in
-    let n = natural s c.if1.false in
+    let n = natural s c.if-n-lt0.false in
     rw (read s) (not_negative (itself (z s)) (omega arith), record { fits = rw (size_is (itself (z s)) (omega arith)) (omega (arith, fits-up (narrow s))) })
 
-returns-2 : tie.Need-returns-2
+returns-2 : tie.Need-returns
 returns-2 c =
     let s = c.before in
-    let n = natural s c.if1.false in
+    let n = natural s c.if-n-lt0.false in
     rw (read s) (size_is (itself (z s)) (omega arith) ∙ omega (arith, unsigned-lower 4 (z s) n))
 
-pub unsigned-i32-spec : {M : Type 1} → statement M
-unsigned-i32-spec = tie.close (tie.spec cast-result add-result cast-result-2 returns cast-result-3 returns-2)
+pub unsigned_i32_spec : {M : Type 1} → statement M
+unsigned_i32_spec =
+    tie.close
+    (tie.spec
+    cast-result
+    add-result
+    cast-result-2
+    returns
+    cast-result-3
+    returns-2)

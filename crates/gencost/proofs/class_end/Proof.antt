@@ -10,26 +10,26 @@ use Rattle.gencost.proofs.Runs.{Running, running-starts, running-ends, running_f
 use Rattle.gencost.proofs.class_end.Statement.{statement}
 use Rattle.gencost.proofs.class_end.Tie as tie
 
-abbrev invariant-loop : tie.invariant-loop
+abbrev invariant-loop : tie.invariant-loop-i
 invariant-loop class text at i₀ i = Running (passes class) text at i
 
-abbrev decreases-loop : tie.decreases-loop
+abbrev decreases-loop : tie.decreases-loop-i
 decreases-loop class text at i₀ i = length text - i
 
-loop-holds : tie.Need-loop-init invariant-loop decreases-loop
-loop-holds c = running-starts _ _ _ c.before.requires
+loop-holds : tie.Need-loop-i-init invariant-loop decreases-loop
+loop-holds c = running-starts _ _ _ c.requires
 
-returns : tie.Need-returns invariant-loop decreases-loop
-returns c = running_fails _ _ _ c.before.before.before.before.loop.invariant (omega arith) (sym c.before.is-of.ensures ∙ not-true _ c.if1.true)
+returns : tie.Need-returns-then-not-is_of invariant-loop decreases-loop
+returns c = running_fails _ _ _ c.loop-i.invariant (omega arith) (sym c.is_of.ensures ∙ not-true _ c.if-not-is_of.true)
 
-loop-again : tie.Need-loop-preserved invariant-loop decreases-loop
-loop-again c = running_more _ _ _ c.before.before.before.before.loop.invariant (omega arith) (sym c.before.is-of.ensures ∙ not-false _ c.if1.false)
+loop-again : tie.Need-loop-i-preserved invariant-loop decreases-loop
+loop-again c = running_more _ _ _ c.loop-i.invariant (omega arith) (sym c.is_of.ensures ∙ not-false _ c.if-not-is_of.false)
 
-returns-2 : tie.Need-returns-2 invariant-loop decreases-loop
-returns-2 c = running-ends _ _ _ c.before.loop.invariant (omega arith)
+returns-2 : tie.Need-returns invariant-loop decreases-loop
+returns-2 c = running-ends _ _ _ c.loop-i.invariant (omega arith)
 
-pub class-end-spec : {M : Type 1} → statement M
-class-end-spec =
+pub class_end_spec : {M : Type 1} → statement M
+class_end_spec =
     tie.close
     (tie.spec
     invariant-loop

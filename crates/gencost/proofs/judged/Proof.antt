@@ -6,26 +6,34 @@ use Rattle.gencost.proofs.Reading.{judged_not_whole, judged-above, judged-read, 
 use Rattle.gencost.proofs.judged.Statement.{statement}
 use Rattle.gencost.proofs.judged.Tie as tie
 
-returns : tie.Need-returns
-returns c = let a = c.before.before.args in judged_not_whole a.square a.linear a.constant c.before.any.ensures c.if1.true
+returns : tie.Need-returns-then-any
+returns c = let a = c.args in judged_not_whole a.square a.linear a.constant c.any.ensures c.if-any.true
 
-returns-2 : tie.Need-returns-2
+returns-2 : tie.Need-returns-then-any-2
 returns-2 c =
-    let w = c.before.before in
-    let a = w.before.before.args in
-    judged-above a.square a.linear a.constant w.before.any.ensures w.if1.false c.before.any2.ensures c.if2.true
+    let w = c in
+    let a = w.args in
+    judged-above a.square a.linear a.constant w.any.ensures w.if-any.false c.any-2.ensures c.if-any-2.true
 
 -- what is read is within its limit
-small : (c : tie.Else2) → let a = c.before.before.before.before.args in (a.square.result ≤ 1000) × (a.linear.result ≤ 10000000) × (a.constant.result ≤ 1000000000)
-small c = let a = c.before.before.before.before.args in within-limits a.square a.linear a.constant c.before.any2.ensures c.if2.false
+small : (c : tie.Else-any-2) → let a = c.args in (a.square.result ≤ 1000) × (a.linear.result ≤ 10000000) × (a.constant.result ≤ 1000000000)
+small c = let a = c.args in within-limits a.square a.linear a.constant c.any-2.ensures c.if-any-2.false
 
-returns-3 : tie.Need-returns-3
+returns-3 : tie.Need-returns
 returns-3 c =
-    let w = c.before.before in
-    let a = w.before.before.args in
-    judged-read a.square a.linear a.constant w.before.any.ensures w.if1.false c.before.any2.ensures c.if2.false
+    let w = c in
+    let a = w.args in
+    judged-read a.square a.linear a.constant w.any.ensures w.if-any.false c.any-2.ensures c.if-any-2.false
 
-pub judged-spec : {M : Type 1} → statement M
-judged-spec =
+pub judged_spec : {M : Type 1} → statement M
+judged_spec =
     tie.close
-    (tie.spec (λ c κs. search rules) returns (λ c κs. search rules) returns-2 (λ c. omega (arith, small c)) (λ c. omega (arith, small c)) (λ c. omega (arith, small c)) returns-3)
+    (tie.spec
+    (λ c κs. search rules)
+    returns
+    (λ c κs. search rules)
+    returns-2
+    (λ c. omega (arith, small c))
+    (λ c. omega (arith, small c))
+    (λ c. omega (arith, small c))
+    returns-3)

@@ -5,31 +5,31 @@ use Rattle.gencost.proofs.Taking.{only-long, only-other, only-is}
 use Rattle.gencost.proofs.next_only.Statement.{statement}
 use Rattle.gencost.proofs.next_only.Tie as tie
 
-abbrev entry : tie.After-class-end2 → tie.Start
+abbrev entry : tie.After-class_end-end → tie.Start
 entry c = c.before.before.before
 
-returns : tie.Need-returns
+returns : tie.Need-returns-then-end-from
 returns c =
-    let e = c.before in
-    let s = entry e in
-    (only-long s.args.row.now s.args.at s.pre e.before.class-end.ensures.0 e.class-end2.ensures.0 s.args.c c.if1.true, omega arith)
+    let e = c in
+    let s = entry e.before in
+    (only-long s.args.row.now s.args.at s.requires e.class_end-from.ensures.0 e.class_end-end.ensures.0 s.args.c c.if-end-from.true, omega arith)
 
-returns-2 : tie.Need-returns-2
+returns-2 : tie.Need-returns-then-row-from
 returns-2 c =
-    let w = c.before.before in
-    let e = w.before in
-    let s = entry e in
-    (only-other s.args.row.now s.args.at s.pre e.before.class-end.ensures.0 e.class-end2.ensures.0 s.args.c w.if1.false c.if2.true, omega arith)
+    let w = c in
+    let e = w in
+    let s = entry e.before.before.before in
+    (only-other s.args.row.now s.args.at s.requires e.class_end-from.ensures.0 e.class_end-end.ensures.0 s.args.c w.if-end-from.false c.if-row-from.true, omega arith)
 
-returns-3 : tie.Need-returns-3
+returns-3 : tie.Need-returns
 returns-3 c =
-    let w = c.before.before in
-    let e = w.before in
-    let s = entry e in
-    (only-is s.args.row.now s.args.at s.pre e.before.class-end.ensures.0 e.class-end2.ensures.0 s.args.c w.if1.false c.if2.false, omega arith)
+    let w = c in
+    let e = w in
+    let s = entry e.before.before.before in
+    (only-is s.args.row.now s.args.at s.requires e.class_end-from.ensures.0 e.class_end-end.ensures.0 s.args.c w.if-end-from.false c.if-row-from.false, omega arith)
 
-pub next-only-spec : {M : Type 1} → statement M
-next-only-spec =
+pub next_only_spec : {M : Type 1} → statement M
+next_only_spec =
     tie.close
     (tie.spec
     (λ c κs. search rules)

@@ -11,29 +11,29 @@ use Rattle.gencost.proofs.Numbers.{digit-range, Spelling, spelling_starts, spell
 use Rattle.gencost.proofs.number_after.Statement.{statement}
 use Rattle.gencost.proofs.number_after.Tie as tie
 
-abbrev invariant-loop : tie.invariant-loop
+abbrev invariant-loop : tie.invariant-loop-i
 invariant-loop before digits limit n₀ i₀ n i = Spelling before digits limit n i
 
-abbrev decreases-loop : tie.decreases-loop
+abbrev decreases-loop : tie.decreases-loop-i
 decreases-loop before digits limit n₀ i₀ n i = length digits - i
 
 -- the next character is a digit
-next : (c : tie.In-loop invariant-loop decreases-loop) → let x = get_or c.before.before.before.args.digits.now c.before.loop.i 0 in (48 ≤ x) × (x ≤ 57)
+next : (c : tie.In-loop-i invariant-loop decreases-loop) → let x = get_or c.args.digits.now c.loop-i.i 0 in (48 ≤ x) × (x ≤ 57)
 next c =
-    let s = c.before.before.before in
-    digit-range (get_or s.args.digits.now c.before.loop.i 0) (every-at (λ x. digit x ≡ true) s.args.digits.now c.before.loop.i 0 s.requires.0 (omega arith))
+    let s = c in
+    digit-range (get_or s.args.digits.now c.loop-i.i 0) (every-at (λ x. digit x ≡ true) s.args.digits.now c.loop-i.i 0 s.requires.0 (omega arith))
 
-loop-holds : tie.Need-loop-init invariant-loop decreases-loop
-loop-holds c = spelling_starts _ _ _ c.before.requires.1
+loop-holds : tie.Need-loop-i-init invariant-loop decreases-loop
+loop-holds c = spelling_starts _ _ _ c.requires.1
 
-loop-again : tie.Need-loop-preserved invariant-loop decreases-loop
-loop-again c = spelling_more _ _ _ c.before.before.before.loop.invariant (omega arith) c.held.ensures
+loop-again : tie.Need-loop-i-preserved invariant-loop decreases-loop
+loop-again c = spelling_more _ _ _ c.loop-i.invariant (omega arith) c.held-n.ensures
 
 returns : tie.Need-returns invariant-loop decreases-loop
-returns c = spelling_ends _ _ _ c.before.loop.invariant (omega arith)
+returns c = spelling_ends _ _ _ c.loop-i.invariant (omega arith)
 
-pub number-after-spec : {M : Type 1} → statement M
-number-after-spec =
+pub number_after_spec : {M : Type 1} → statement M
+number_after_spec =
     tie.close
     (tie.spec
     invariant-loop

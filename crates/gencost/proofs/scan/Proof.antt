@@ -8,68 +8,68 @@ use Rattle.gencost.proofs.Scanning.{scan_malformed, scan_formed}
 use Rattle.gencost.proofs.scan.Statement.{statement}
 use Rattle.gencost.proofs.scan.Tie as tie
 
-abbrev entry : tie.After-class-end → tie.Start
-entry c = c.before.before
+abbrev entry : tie.After-class_end → tie.Start
+entry c = c.before.before.before.before.before.before.before.before
 
-abbrev point : (c : tie.Else3) → tie.After-class-end
+abbrev point : (c : tie.Else-word-point-ne46) → tie.After-class_end
 point c = c.before.before.before.before
 
-returns : tie.Need-returns
-returns c = scan_malformed _ _ _ (told_none (entry c.before).args.word.now c.before.class-end.ensures.0 c.if1.true)
+returns : tie.Need-returns-then-point-eq0
+returns c = scan_malformed _ _ _ (told_none (entry c.before).args.word.now c.class-end.ensures.0 c.if-point-eq0.true)
 
 placed-requires : tie.Need-placed-requires
 placed-requires c κs =
-    let e = c.before.before.before in
-    let d = whole-digits (entry e).args.word.now e.class-end.ensures.0 c.before.if2.true in
+    let e = c in
+    let d = whole-digits (entry e).args.word.now e.class-end.ensures.0 c.if-point-word.true in
     (d.0, d.1, (entry e).requires)
 
-returns-2 : tie.Need-returns-2
+returns-2 : tie.Need-returns-then-point-word
 returns-2 c =
-    let w = c.before.before in
-    let e = w.before.before in
-    scan_formed _ _ _ refl (told-whole (entry e).args.word.now e.class-end.ensures.0 w.before.if1.false w.if2.true) c.placed.ensures
+    let w = c in
+    let e = w in
+    scan_formed _ _ _ refl (told-whole (entry e).args.word.now e.class-end.ensures.0 w.if-point-eq0.false w.if-point-word.true) c.placed.ensures
 
-returns-3 : tie.Need-returns-3
+returns-3 : tie.Need-returns-then-word-point-ne46
 returns-3 c =
-    let e = c.before.before.before.before in
-    scan_malformed _ _ _ (told-strange (entry e).args.word.now e.class-end.ensures.0 (omega arith) c.if3.true)
+    let e = c in
+    scan_malformed _ _ _ (told-strange (entry e).args.word.now e.class-end.ensures.0 (omega arith) c.if-word-point-ne46.true)
 
-returns-4 : tie.Need-returns-4
+returns-4 : tie.Need-returns-then-first-word
 returns-4 c =
     let e = point c.before in
-    scan_malformed _ _ _ (told_bare (entry e).args.word.now e.class-end.ensures.0 (omega arith) c.before.if3.false c.if4.true)
+    scan_malformed _ _ _ (told_bare (entry e).args.word.now e.class-end.ensures.0 (omega arith) c.if-word-point-ne46.false c.if-first-word.true)
 
-returns-5 : tie.Need-returns-5
+returns-5 : tie.Need-returns-then-class_end-word
 returns-5 c =
-    let third = c.before.before.before in
-    let e = point third in
-    scan_malformed _ _ _ (told-other (entry e).args.word.now e.class-end.ensures.0 (omega arith) third.if3.false c.before.class-end2.ensures.0 c.if5.true)
+    let third = c in
+    let e = point third.before.before.before in
+    scan_malformed _ _ _ (told-other (entry e).args.word.now e.class-end.ensures.0 (omega arith) third.if-word-point-ne46.false c.class_end.ensures.0 c.if-class_end-word.true)
 
-slice-aggregate-placed : tie.Need-slice-aggregate-placed
+slice-aggregate-placed : tie.Need-slice_bounds-placed-end-2
 slice-aggregate-placed c =
-    let e = point c.before.before.before.before in
+    let e = point c.before.before.before in
     omega (arith, length-take-le e.class-end.result (entry e).args.word.now e.class-end.ensures.1)
 
 placed-requires-2 : tie.Need-placed-requires-2
 placed-requires-2 c κs =
-    let fifth = c.before.before in
-    let third = fifth.before.before.before in
-    let e = point third in
+    let fifth = c in
+    let third = fifth in
+    let e = point third.before.before.before.before in
     let w = (entry e).args.word.now in
-    (front w e.class-end.ensures.0, behind-digits w e.class-end.ensures.0 (omega arith) third.if3.false fifth.before.class-end2.ensures.0 fifth.if5.false, (entry e).pre)
+    (front w e.class-end.ensures.0, behind-digits w e.class-end.ensures.0 (omega arith) third.if-word-point-ne46.false fifth.class_end.ensures.0 fifth.if-class_end-word.false, (entry e).requires)
 
-returns-6 : tie.Need-returns-6
+returns-6 : tie.Need-returns
 returns-6 c =
-    let fifth = c.before.before.before in
-    let fourth = fifth.before.before in
-    let third = fourth.before in
-    let e = point third in
+    let fifth = c in
+    let fourth = fifth in
+    let third = fourth in
+    let e = point third.before.before.before.before.before in
     let w = (entry e).args.word.now in
-    let d = told-parted w e.class-end.ensures.0 (omega arith) third.if3.false fifth.before.class-end2.ensures.0 fifth.if5.false third.before.before.before.if1.false fourth.if4.false in
-    scan_formed _ _ _ refl d c.placed2.ensures
+    let d = told-parted w e.class-end.ensures.0 (omega arith) third.if-word-point-ne46.false fifth.class_end.ensures.0 fifth.if-class_end-word.false third.if-point-eq0.false fourth.if-first-word.false in
+    scan_formed _ _ _ refl d c.placed-2.ensures
 
-pub scan-spec : {M : Type 1} → statement M
-scan-spec =
+pub scan_spec : {M : Type 1} → statement M
+scan_spec =
     tie.close
     (tie.spec
     (λ c κs. search rules)

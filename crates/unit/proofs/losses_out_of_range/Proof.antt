@@ -27,25 +27,25 @@ module _ (c : tie.Start) where
   sum_fits : SFits w64 (z +ℤ pos (19999 * c.args.u.b))
   sum_fits = fits (is_add (itself z) (is_pos (19999 * c.args.u.b))) (omega (arith, fits-up narrow)) (omega (arith, fits_dn narrow))
 
-returns : tie.Need-returns
-returns c = simp (rw (read c.before.before) at c.if1.true)
+returns : tie.Need-returns-then-b1-ltminus10000000
+returns c = simp (rw (read c.before.before) at c.if-b1-ltminus10000000.true)
 
-returns-2 : tie.Need-returns-2
-returns-2 c = simp (rw (read c.before.before.before) at c.before.if1.false, rw (read c.before.before.before) at c.if2.true)
+returns-2 : tie.Need-returns-then-b1-gt10000000
+returns-2 c = simp (rw (read c.before.before.before) at c.before.if-b1-ltminus10000000.false, rw (read c.before.before.before) at c.if-b1-gt10000000.true)
 
-cast-result : tie.Need-overflow-cast-result
+cast-result : tie.Need-overflow_cast-result
 cast-result c = rw (read c.before.before.before) (widened-fits (narrow c.before.before.before))
 
-add-result : tie.Need-overflow-add-result
+add-result : tie.Need-overflow_add-result
 add-result c = let s = c.before.before.before in rw (widened (narrow s), loss s) (sum_fits s)
 
-returns-3 : tie.Need-returns-3
+returns-3 : tie.Need-returns
 returns-3 c =
     let s = c.before.before.before in
-    rw (widened (narrow s), loss s, to_z-of_z {w = w64} (sum_fits s)) (simp (rw (read s) at c.before.if1.false, rw (read s) at c.if2.false))
+    rw (widened (narrow s), loss s, to_z-of_z {w = w64} (sum_fits s)) (simp (rw (read s) at c.before.if-b1-ltminus10000000.false, rw (read s) at c.if-b1-gt10000000.false))
 
-pub losses-out-of-range-spec : {M : Type 1} → statement M
-losses-out-of-range-spec =
+pub losses_out_of_range_spec : {M : Type 1} → statement M
+losses_out_of_range_spec =
     tie.close
     (tie.spec
     returns

@@ -8,5 +8,8 @@ returns : tie.Need-returns
 unfolding with_previous
 returns c = search rules
 
-pub with-previous-spec : {M : Type 1} → statement M
-with-previous-spec = tie.close (tie.spec returns)
+pub with_previous_spec : {M : Type 1} → statement M
+with_previous_spec =
+    tie.close
+    (tie.spec
+    returns)
