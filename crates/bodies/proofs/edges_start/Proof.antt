@@ -6,11 +6,15 @@ use Rattle.rules.specs.Layout.{edges_start}
 use Rattle.bodies.proofs.edges_start.Statement.{statement}
 use Rattle.bodies.proofs.edges_start.Tie as tie
 
-returns : tie.Need-returns
-returns c = (sym (ap edges_start c.if1.true), omega arith, omega arith)
+returns : tie.Need-returns-then-edition-eq2
+returns c = (sym (ap edges_start c.if-edition-eq2.true), omega arith, omega arith)
 
-returns-2 : tie.Need-returns-2
-returns-2 c = (rw (ne_eqb _ 2 c.if1.false), omega arith, omega arith)
+returns-2 : tie.Need-returns-else-edition-eq2
+returns-2 c = (rw (ne_eqb _ 2 c.if-edition-eq2.false), omega arith, omega arith)
 
-pub edges-start-spec : {M : Type 1} → statement M
-edges-start-spec = tie.close (tie.spec returns returns-2)
+pub edges_start_spec : {M : Type 1} → statement M
+edges_start_spec =
+    tie.close
+    (tie.spec
+    returns
+    returns-2)

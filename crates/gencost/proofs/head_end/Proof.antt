@@ -11,11 +11,11 @@ use Rattle.gencost.proofs.Taking.{Took, took, took-none, only-took, only_none}
 use Rattle.gencost.proofs.head_end.Statement.{statement}
 use Rattle.gencost.proofs.head_end.Tie as tie
 
-abbrev row : tie.After-next_only → List ℕ
+abbrev row : tie.After-next_only-first → List ℕ
 row c = c.args.row.now
 
-first : (c : tie.Else-first-eq0) → (only 50 (word (row c.before) 0) ≡ true) × Behind (row c.before) 1 c.next-only.result
-first c = only-took (row c.before) (behind-none (row c.before)) 50 c.next-only.ensures.0 c.if-first-eq0.false
+first : (c : tie.Else-first-eq0) → (only 50 (word (row c.before) 0) ≡ true) × Behind (row c.before) 1 c.next_only-first.result
+first c = only-took (row c.before) (behind-none (row c.before)) 50 c.next_only-first.ensures.0 c.if-first-eq0.false
 
 startup : (c : tie.In-Number) → let g = c.startup-1.given.0 in Took (row c.before.before.before.before.before) 1 0 0 g.0 g.1.0
 startup c = let r = c in took _ (first r.before.before.before.before).1 0 0 (sym r.next_number.ensures.0 ∙ c.startup-1.given.1)
@@ -24,7 +24,7 @@ shutdown : (c : tie.In-Number-next_number) → let g = c.shutdown-1.given.0 in T
 shutdown c = let r = c in took _ (startup r.before.before.before.before).behind 0 0 (sym r.next_number-2.ensures.0 ∙ c.shutdown-1.given.1)
 
 returns : tie.Need-returns-then-first-eq0
-returns c = let e = c in (λ z. rw (only_none (row e) (behind-none (row e)) 50 e.next-only.ensures.0 c.if-first-eq0.true), λ z. absurd (z refl))
+returns c = let e = c in (λ z. rw (only_none (row e.before) (behind-none (row e.before)) 50 e.next_only-first.ensures.0 c.if-first-eq0.true), λ z. absurd (z refl))
 
 returns-2 : tie.Need-returns-in_default
 returns-2 c =

@@ -8,47 +8,47 @@ use Rattle.gencost.proofs.Scanning.{scan_malformed, scan_formed}
 use Rattle.gencost.proofs.scan.Statement.{statement}
 use Rattle.gencost.proofs.scan.Tie as tie
 
-abbrev entry : tie.After-class_end → tie.Start
-entry c = c.before.before.before.before.before.before.before.before
+abbrev entry : tie.After-class_end-point → tie.Start
+entry c = c.before.before
 
-abbrev point : (c : tie.Else-word-point-ne46) → tie.After-class_end
+abbrev point : (c : tie.Else-word-point-ne46) → tie.After-class_end-point
 point c = c.before.before.before.before
 
 returns : tie.Need-returns-then-point-eq0
-returns c = scan_malformed _ _ _ (told_none (entry c.before).args.word.now c.class-end.ensures.0 c.if-point-eq0.true)
+returns c = scan_malformed _ _ _ (told_none (entry c.before).args.word.now c.class_end-point.ensures.0 c.if-point-eq0.true)
 
 placed-requires : tie.Need-placed-requires
 placed-requires c κs =
     let e = c in
-    let d = whole-digits (entry e).args.word.now e.class-end.ensures.0 c.if-point-word.true in
-    (d.0, d.1, (entry e).requires)
+    let d = whole-digits (entry e.before.before.before).args.word.now e.class_end-point.ensures.0 c.if-point-word.true in
+    (d.0, d.1, (entry e.before.before.before).requires)
 
 returns-2 : tie.Need-returns-then-point-word
 returns-2 c =
     let w = c in
     let e = w in
-    scan_formed _ _ _ refl (told-whole (entry e).args.word.now e.class-end.ensures.0 w.if-point-eq0.false w.if-point-word.true) c.placed.ensures
+    scan_formed _ _ _ refl (told-whole (entry e.before.before.before.before).args.word.now e.class_end-point.ensures.0 w.if-point-eq0.false w.if-point-word.true) c.placed.ensures
 
 returns-3 : tie.Need-returns-then-word-point-ne46
 returns-3 c =
     let e = c in
-    scan_malformed _ _ _ (told-strange (entry e).args.word.now e.class-end.ensures.0 (omega arith) c.if-word-point-ne46.true)
+    scan_malformed _ _ _ (told-strange (entry e.before.before.before.before).args.word.now e.class_end-point.ensures.0 (omega arith) c.if-word-point-ne46.true)
 
 returns-4 : tie.Need-returns-then-first-word
 returns-4 c =
     let e = point c.before in
-    scan_malformed _ _ _ (told_bare (entry e).args.word.now e.class-end.ensures.0 (omega arith) c.if-word-point-ne46.false c.if-first-word.true)
+    scan_malformed _ _ _ (told_bare (entry e).args.word.now e.class_end-point.ensures.0 (omega arith) c.if-word-point-ne46.false c.if-first-word.true)
 
 returns-5 : tie.Need-returns-then-class_end-word
 returns-5 c =
     let third = c in
     let e = point third.before.before.before in
-    scan_malformed _ _ _ (told-other (entry e).args.word.now e.class-end.ensures.0 (omega arith) third.if-word-point-ne46.false c.class_end.ensures.0 c.if-class_end-word.true)
+    scan_malformed _ _ _ (told-other (entry e).args.word.now e.class_end-point.ensures.0 (omega arith) third.if-word-point-ne46.false c.class_end.ensures.0 c.if-class_end-word.true)
 
 slice-aggregate-placed : tie.Need-slice_bounds-placed-end-2
 slice-aggregate-placed c =
     let e = point c.before.before.before in
-    omega (arith, length-take-le e.class-end.result (entry e).args.word.now e.class-end.ensures.1)
+    omega (arith, length-take-le e.class_end-point.result (entry e).args.word.now e.class_end-point.ensures.1)
 
 placed-requires-2 : tie.Need-placed-requires-2
 placed-requires-2 c κs =
@@ -56,7 +56,7 @@ placed-requires-2 c κs =
     let third = fifth in
     let e = point third.before.before.before.before in
     let w = (entry e).args.word.now in
-    (front w e.class-end.ensures.0, behind-digits w e.class-end.ensures.0 (omega arith) third.if-word-point-ne46.false fifth.class_end.ensures.0 fifth.if-class_end-word.false, (entry e).requires)
+    (front w e.class_end-point.ensures.0, behind-digits w e.class_end-point.ensures.0 (omega arith) third.if-word-point-ne46.false fifth.class_end.ensures.0 fifth.if-class_end-word.false, (entry e).requires)
 
 returns-6 : tie.Need-returns
 returns-6 c =
@@ -65,7 +65,7 @@ returns-6 c =
     let third = fourth in
     let e = point third.before.before.before.before.before in
     let w = (entry e).args.word.now in
-    let d = told-parted w e.class-end.ensures.0 (omega arith) third.if-word-point-ne46.false fifth.class_end.ensures.0 fifth.if-class_end-word.false third.if-point-eq0.false fourth.if-first-word.false in
+    let d = told-parted w e.class_end-point.ensures.0 (omega arith) third.if-word-point-ne46.false fifth.class_end.ensures.0 fifth.if-class_end-word.false third.if-point-eq0.false fourth.if-first-word.false in
     scan_formed _ _ _ refl d c.placed-2.ensures
 
 pub scan_spec : {M : Type 1} → statement M

@@ -6,10 +6,10 @@ use Rattle.packing.proofs.body_length.Statement.{statement}
 use Rattle.packing.proofs.body_length.Tie as tie
 
 returns : tie.Need-returns
-returns c = (omega (arith, edges-behind c.before.before.args.edition), omega arith)
+returns c = (omega (arith, edges-behind c.args.edition), omega arith)
 
-pub body-length-spec : {M : Type 1} → statement M
-body-length-spec =
+pub body_length_spec : {M : Type 1} → statement M
+body_length_spec =
     tie.close
     (tie.spec
     (λ c. search rules)

@@ -32,66 +32,66 @@ module _ (c : tie.Start) where
   read : to_z w32 (of_z w32 c.args.u.b1) ≡ c.args.u.b1
   read = to_z-of_z {w = w32} (search rules)
 
-write-u32-requires : tie.Need-write-u32-requires
+write-u32-requires : tie.Need-write_u32-requires
 write-u32-requires c κs = omega (arith, room c.before.before.before.before.before.before)
 
-write-u32-requires-2 : tie.Need-write-u32-requires-2
+write-u32-requires-2 : tie.Need-write_u32-requires-2
 write-u32-requires-2 c κs = omega (arith, room c.before.before.before.before.before.before.before.before.before.before)
 
-sub-write-words : tie.Need-overflow-sub-write-words
+sub-write-words : tie.Need-slice_bounds-write_words-count
 sub-write-words c = omega (arith, room c.before.before.before.before.before.before.before.before.before.before.before.before.before)
 
-part-write-words-start : tie.Need-slice-bounds-write-words-start
+part-write-words-start : tie.Need-slice_bounds-write_words-start
 part-write-words-start c = omega (arith, room c.before.before.before.before.before.before.before.before.before.before.before.before.before)
 
-write-words-requires : tie.Need-write-words-requires
+write-words-requires : tie.Need-write_words-requires
 write-words-requires c κs = (words-fit (is-sound c.before.before.before.before.before.before.before.before.before.before.before.before.before.before.before), simp (length-take, length-drop) (omega (arith, room c.before.before.before.before.before.before.before.before.before.before.before.before.before.before.before)))
 
-numbers : (c : tie.After-write-words) → length (given_back 8 c.before.before.before.before.before.write-u322.new.0 c.write-words.new.0) ≡ length c.before.before.before.before.before.before.before.before.before.before.before.before.before.before.before.before.args.part.now
+numbers : (c : tie.After-write_words) → length (given_back 8 c.write_u32-2.new.0 c.write_words.new.0) ≡ length c.args.part.now
 numbers c =
-    let a = c.before.before.before.before.before.before.before.before.before.before.before.before.before.before.before.before.args in
+    let a = c.args in
     front_length
-    (numbers-front a.edition (unit_held a.u) a.part.now c.before.before.before.before.before.before.before.before.before.write-u32.new.0 c.before.before.before.before.before.write-u322.new.0 c.write-words.new.0 c.before.before.before.before.before.before.before.before.before.write-u32.ensures c.before.before.before.before.before.write-u322.ensures c.write-words.ensures)
+    (numbers-front a.edition (unit_held a.u) a.part.now c.write_u32.new.0 c.write_u32-2.new.0 c.write_words.new.0 c.write_u32.ensures c.write_u32-2.ensures c.write_words.ensures)
     (omega (arith, room c.before.before.before.before.before.before.before.before.before.before.before.before.before.before.before.before))
 
-write-number-requires : tie.Need-write-number-requires
-write-number-requires c κs = omega (arith, numbers c.before.before.before, room c.before.before.before.before.before.before.before.before.before.before.before.before.before.before.before.before.before.before.before, c.before.before.before.before.before.before.before.before.before.before.before.before.before.before.before.in-second.ensures)
+write-number-requires : tie.Need-write_number-requires
+write-number-requires c κs = omega (arith, numbers c.before.before.before, room c.before.before.before.before.before.before.before.before.before.before.before.before.before.before.before.before.before.before.before, c.in_second-width.ensures)
 
 -- b1 as it is written
-loss : (c : tie.After-write-number) → c.write-number.new.0 ≡ written (given_back 8 c.before.before.before.before.before.before.before.before.before.write-u322.new.0 c.before.before.before.before.write-words.new.0) 26 (in_second c.before.before.before.before.before.before.before.before.before.before.before.before.before.before.before.before.before.before.before.before.args.edition 4) (unsigned 4 (unit_held c.before.before.before.before.before.before.before.before.before.before.before.before.before.before.before.before.before.before.before.before.args.u).b1)
-loss c = c.write-number.ensures ∙ ap₂ (written (given_back 8 c.before.before.before.before.before.before.before.before.before.write-u322.new.0 c.before.before.before.before.write-words.new.0) 26) c.before.before.before.before.before.before.before.before.before.before.before.before.before.before.before.before.in-second.ensures.0 (c.before.before.before.before.before.before.before.before.before.before.before.before.before.before.before.unsigned-i32.ensures ∙ ap (unsigned 4) (read c.before.before.before.before.before.before.before.before.before.before.before.before.before.before.before.before.before.before.before.before))
+loss : (c : tie.After-write_number) → c.write_number.new.0 ≡ written (given_back 8 c.write_u32-2.new.0 c.write_words.new.0) 26 (in_second c.args.edition 4) (unsigned 4 (unit_held c.args.u).b1)
+loss c = c.write_number.ensures ∙ ap₂ (written (given_back 8 c.write_u32-2.new.0 c.write_words.new.0) 26) c.in_second-width.ensures.0 (c.unsigned_i32-loss.ensures ∙ ap (unsigned 4) (read c.before.before.before.before.before.before.before.before.before.before.before.before.before.before.before.before.before.before.before.before))
 
-as_long : (c : tie.After-write-number) → length c.write-number.new.0 ≡ length c.before.before.before.before.before.before.before.before.before.before.before.before.before.before.before.before.before.before.before.before.args.part.now
+as_long : (c : tie.After-write_number) → length c.write_number.new.0 ≡ length c.args.part.now
 as_long c =
-    let a = c.before.before.before.before.before.before.before.before.before.before.before.before.before.before.before.before.before.before.before.before.args in
+    let a = c.args in
     front_length
-    (loss-front a.edition (unit_held a.u) a.part.now c.before.before.before.before.before.before.before.before.before.before.before.before.before.write-u32.new.0 c.before.before.before.before.before.before.before.before.before.write-u322.new.0 c.before.before.before.before.write-words.new.0 c.before.before.before.before.before.before.before.before.before.before.before.before.before.write-u32.ensures c.before.before.before.before.before.before.before.before.before.write-u322.ensures c.before.before.before.before.write-words.ensures c.write-number.new.0 (loss c))
+    (loss-front a.edition (unit_held a.u) a.part.now c.write_u32.new.0 c.write_u32-2.new.0 c.write_words.new.0 c.write_u32.ensures c.write_u32-2.ensures c.write_words.ensures c.write_number.new.0 (loss c))
     (omega (arith, room c.before.before.before.before.before.before.before.before.before.before.before.before.before.before.before.before.before.before.before.before))
 
-sub-write-words-2 : tie.Need-overflow-sub-write-words-2
-sub-write-words-2 c = omega (arith, as_long c.before.before, room c.before.before.before.before.before.before.before.before.before.before.before.before.before.before.before.before.before.before.before.before.before.before, c.before.before.before.before.before.before.before.before.before.before.before.before.before.before.before.before.before.before.in-second.ensures)
+sub-write-words-2 : tie.Need-slice_bounds-write_words-count-2
+sub-write-words-2 c = omega (arith, as_long c.before.before, room c.before.before.before.before.before.before.before.before.before.before.before.before.before.before.before.before.before.before.before.before.before.before, c.in_second-width.ensures)
 
-part-write-words-start-2 : tie.Need-slice-bounds-write-words-start-2
-part-write-words-start-2 c = omega (arith, as_long c.before.before, room c.before.before.before.before.before.before.before.before.before.before.before.before.before.before.before.before.before.before.before.before.before.before, c.before.before.before.before.before.before.before.before.before.before.before.before.before.before.before.before.before.before.in-second.ensures)
+part-write-words-start-2 : tie.Need-slice_bounds-write_words-start-2
+part-write-words-start-2 c = omega (arith, as_long c.before.before, room c.before.before.before.before.before.before.before.before.before.before.before.before.before.before.before.before.before.before.before.before.before.before, c.in_second-width.ensures)
 
-array-share-prefix-edges : tie.Need-array-share-prefix-edges
+array-share-prefix-edges : tie.Need-slice_bounds-edges-end
 array-share-prefix-edges c = omega (arith, eight c.before.before.before.before.before.before.before.before.before.before.before.before.before.before.before.before.before.before.before.before.before.before.before, (is-sound c.before.before.before.before.before.before.before.before.before.before.before.before.before.before.before.before.before.before.before.before.before.before.before).zone_count)
 
-slice-aggregate-write-words-2 : tie.Need-slice-aggregate-write-words-2
+slice-aggregate-write-words-2 : tie.Need-slice_bounds-write_words-end-4
 slice-aggregate-write-words-2 c = simp length-take (omega (arith, eight c.before.before.before.before.before.before.before.before.before.before.before.before.before.before.before.before.before.before.before.before.before.before.before.before, (is-sound c.before.before.before.before.before.before.before.before.before.before.before.before.before.before.before.before.before.before.before.before.before.before.before.before).zone_count))
 
-write-words-requires-2 : tie.Need-write-words-requires-2
+write-words-requires-2 : tie.Need-write_words-requires-2
 write-words-requires-2 c κs =
-    let s = c.before.before.before.before.before.before.before.before.before.before.before.before.before.before.before.before.before.before.before.before.before.before.before.before in
-    (edges_fit (is-sound s) (2 * s.args.u.zone_count), simp (length-take, length-drop) (omega (arith, as_long c.before.before.before.before, room s, c.before.before.before.before.before.before.before.before.before.before.before.before.before.before.before.before.before.before.before.before.in-second.ensures, eight s, (is-sound s).zone_count)))
+    let s = c in
+    (edges_fit (is-sound s.before.before.before.before.before.before.before.before.before.before.before.before.before.before.before.before.before.before.before.before.before.before.before.before) (2 * s.args.u.zone_count), simp (length-take, length-drop) (omega (arith, as_long c.before.before.before.before, room s.before.before.before.before.before.before.before.before.before.before.before.before.before.before.before.before.before.before.before.before.before.before.before.before, c.in_second-width.ensures, eight s.before.before.before.before.before.before.before.before.before.before.before.before.before.before.before.before.before.before.before.before.before.before.before.before, (is-sound s.before.before.before.before.before.before.before.before.before.before.before.before.before.before.before.before.before.before.before.before.before.before.before.before).zone_count)))
 
 returns : tie.Need-returns
 returns c =
-    let a = c.before.before.before.before.before.before.before.before.before.before.before.before.before.before.before.before.before.before.before.before.before.before.before.before.before.before.before.args in
-    body-whole a.edition (unit_held a.u) a.part.now c.before.before.before.before.before.before.before.before.before.before.before.before.before.before.before.before.before.before.before.before.write-u32.new.0 c.before.before.before.before.before.before.before.before.before.before.before.before.before.before.before.before.write-u322.new.0 c.before.before.before.before.before.before.before.before.before.before.before.write-words.new.0 c.before.before.before.before.before.before.before.before.before.before.before.before.before.before.before.before.before.before.before.before.write-u32.ensures c.before.before.before.before.before.before.before.before.before.before.before.before.before.before.before.before.write-u322.ensures c.before.before.before.before.before.before.before.before.before.before.before.write-words.ensures c.before.before.before.before.before.before.before.write-number.new.0 (loss c.before.before.before.before.before.before.before) _ (ap (λ n. 26 + n) c.before.before.before.before.before.before.before.before.before.before.before.before.before.before.before.before.before.before.before.before.before.before.before.in-second.ensures.0) c.before.before.write-words2.new.0 c.before.before.write-words2.ensures
+    let a = c.args in
+    body-whole a.edition (unit_held a.u) a.part.now c.write_u32.new.0 c.write_u32-2.new.0 c.write_words.new.0 c.write_u32.ensures c.write_u32-2.ensures c.write_words.ensures c.write_number.new.0 (loss c.before.before.before.before.before.before.before) _ (ap (λ n. 26 + n) c.in_second-width.ensures.0) c.write_words-2.new.0 c.write_words-2.ensures
 
-pub write-body-spec : {M : Type 1} → statement M
-write-body-spec =
+pub write_body_spec : {M : Type 1} → statement M
+write_body_spec =
     tie.close
     (tie.spec
     (λ c. search rules)

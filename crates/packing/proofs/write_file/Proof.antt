@@ -9,32 +9,32 @@ use Rattle.packing.proofs.Written.{front-contents, file-whole}
 use Rattle.packing.proofs.write_file.Statement.{statement}
 use Rattle.packing.proofs.write_file.Tie as tie
 
-write-contents-requires : tie.Need-write-contents-requires
-write-contents-requires c κs = (c.before.before.before.before.before.before.before.requires.0, simp (length-take, length-drop) (omega arith))
+write-contents-requires : tie.Need-write_contents-requires
+write-contents-requires c κs = (c.requires.0, simp (length-take, length-drop) (omega arith))
 
-as_long : (c : tie.After-slice-known3) → length (given_back 8 c.before.before.before.before.before.before.write-head.new.0 c.before.before.write-contents.new.0) ≡ length c.before.before.before.before.before.before.before.before.before.before.args.file.now
+as_long : (c : tie.After-slice_known-3-1) → length (given_back 8 c.write_head.new.0 c.write_contents.new.0) ≡ length c.args.file.now
 as_long c =
-    let a = c.before.before.before.before.before.before.before.before.before.before.args in
+    let a = c.args in
     front_length
-    (front-contents a.edition a.n a.demand (unit_in_row a.rows.now a.b1.now) a.file.now c.before.before.before.before.before.before.write-head.new.0 c.before.before.write-contents.new.0 c.before.before.before.before.before.before.write-head.ensures c.before.before.write-contents.ensures)
-    (omega (arith, c.before.before.before.before.before.before.before.before.before.before.requires.1))
+    (front-contents a.edition a.n a.demand (unit_in_row a.rows.now a.b1.now) a.file.now c.write_head.new.0 c.write_contents.new.0 c.write_head.ensures c.write_contents.ensures)
+    (omega (arith, c.requires.1))
 
-sub-write-bodies : tie.Need-overflow-sub-write-bodies
-sub-write-bodies c = omega (arith, as_long c, c.before.before.before.before.before.before.before.before.before.before.requires.1)
+sub-write-bodies : tie.Need-slice_bounds-write_bodies-count
+sub-write-bodies c = omega (arith, as_long c, c.requires.1)
 
-part-write-bodies-start : tie.Need-slice-bounds-write-bodies-start
-part-write-bodies-start c = omega (arith, as_long c, c.before.before.before.before.before.before.before.before.before.before.requires.1)
+part-write-bodies-start : tie.Need-slice_bounds-write_bodies-start
+part-write-bodies-start c = omega (arith, as_long c, c.requires.1)
 
-write-bodies-requires : tie.Need-write-bodies-requires
-write-bodies-requires c κs = (c.before.before.before.before.before.before.before.before.before.before.before.requires.0, simp (length-take, length-drop) (omega (arith, as_long c.before, c.before.before.before.before.before.before.before.before.before.before.before.requires.1)))
+write-bodies-requires : tie.Need-write_bodies-requires
+write-bodies-requires c κs = (c.requires.0, simp (length-take, length-drop) (omega (arith, as_long c.before, c.requires.1)))
 
 returns : tie.Need-returns
 returns c =
-    let a = c.before.before.before.before.before.before.before.before.before.before.before.before.before.before.args in
-    file-whole a.edition a.n a.demand (unit_in_row a.rows.now a.b1.now) a.file.now c.before.before.before.before.before.before.before.before.before.before.write-head.new.0 c.before.before.before.before.before.before.write-contents.new.0 c.before.before.before.before.before.before.before.before.before.before.write-head.ensures c.before.before.before.before.before.before.write-contents.ensures c.before.before.write-bodies.new.0 c.before.before.write-bodies.ensures
+    let a = c.args in
+    file-whole a.edition a.n a.demand (unit_in_row a.rows.now a.b1.now) a.file.now c.write_head.new.0 c.write_contents.new.0 c.write_head.ensures c.write_contents.ensures c.write_bodies.new.0 c.write_bodies.ensures
 
-pub write-file-spec : {M : Type 1} → statement M
-write-file-spec =
+pub write_file_spec : {M : Type 1} → statement M
+write_file_spec =
     tie.close
     (tie.spec
     (λ c κs. search rules)

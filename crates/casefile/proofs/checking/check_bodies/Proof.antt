@@ -12,62 +12,62 @@ use Rattle.casefile.proofs.Body.{verdict_at}
 use Rattle.casefile.proofs.checking.check_bodies.Statement.{statement}
 use Rattle.casefile.proofs.checking.check_bodies.Tie as tie
 
-abbrev invariant-loop : tie.invariant-loop
+abbrev invariant-loop : tie.invariant-loop-i
 invariant-loop file n e i₀ i = (e ≡ edition file) × Checked n (verdict_at file) i
 
-abbrev decreases-loop : tie.decreases-loop
+abbrev decreases-loop : tie.decreases-loop-i
 decreases-loop file n e i₀ i = n - i
 
-read-u16-requires : tie.Need-read-u16-requires invariant-loop decreases-loop
+read-u16-requires : tie.Need-read_u16-edition-requires invariant-loop decreases-loop
 read-u16-requires c κs = omega arith
 
-loop-holds : tie.Need-loop-init invariant-loop decreases-loop
-loop-holds c = (c.read-u16.ensures, checked-starts _ _)
+loop-holds : tie.Need-loop-i-init invariant-loop decreases-loop
+loop-holds c = (c.read_u16-edition.ensures, checked-starts _ _)
 
-body-of-requires : tie.Need-body-of-requires invariant-loop decreases-loop
+body-of-requires : tie.Need-body_of-requires invariant-loop decreases-loop
 body-of-requires c κs =
-    let s = c.before.before.before.before in
-    body-inside s.args.file.now s.requires.1 c.before.loop.i (omega (arith, s.requires.0.units))
+    let s = c in
+    body-inside s.args.file.now s.requires.1 c.loop-i.i (omega (arith, s.requires.0.units))
 
-check-body-requires : tie.Need-check-body-requires invariant-loop decreases-loop
+check-body-requires : tie.Need-check_body-verdict-requires invariant-loop decreases-loop
 check-body-requires c κs =
     let inside = body-of-requires c.before c.body_of.lifetimes in
     omega (arith, ap length c.body_of.ensures, body-length inside, inside.long)
 
-enum_told : tie.Need-enum-told invariant-loop decreases-loop
+enum_told : tie.Need-enum_told-1 invariant-loop decreases-loop
 enum_told c = search rules
 
-returns : tie.Need-returns invariant-loop decreases-loop
+returns : tie.Need-returns-in-Refused invariant-loop decreases-loop
 returns c =
-    let l = c.before.before.before.before.before.loop in
-    let a = c.before.before.before.before.before.before.before.before.args in
-    let told = c.enum_told.given.1 in
-    let checked = sym (ap₂ body_verdict l.invariant.0 c.before.before.before.body_of.ensures) ∙ sym c.before.before.check-body.ensures ∙ told in
+    let l = c.loop-i in
+    let a = c.args in
+    let told = c.in-Refused.is in
+    let checked = sym (ap₂ body_verdict l.invariant.0 c.body_of.ensures) ∙ sym c.check_body-verdict.ensures ∙ told in
     told ∙ sym (checked_refused a.n (verdict_at a.file.now) l.i l.invariant.1 (omega arith) checked)
 
-enum-told-2 : tie.Need-enum-told-2 invariant-loop decreases-loop
+enum-told-2 : tie.Need-enum_told-in_default invariant-loop decreases-loop
 enum-told-2 c = search rules
 
-add-i : tie.Need-overflow-add-i invariant-loop decreases-loop
+add-i : tie.Need-overflow_add-i invariant-loop decreases-loop
 add-i c = omega arith
 
-loop-less : tie.Need-loop-smaller invariant-loop decreases-loop
+loop-less : tie.Need-loop-i-smaller invariant-loop decreases-loop
 loop-less c = omega arith
 
-loop-again : tie.Need-loop-preserved invariant-loop decreases-loop
+loop-again : tie.Need-loop-i-preserved invariant-loop decreases-loop
 loop-again c =
-    let l = c.before.before.before.before.before.loop in
-    let a = c.before.before.before.before.before.before.before.before.args in
-    (l.invariant.0, checked-more a.n (verdict_at a.file.now) l.i l.invariant.1 (omega arith) (sym (ap₂ body_verdict l.invariant.0 c.before.before.before.body_of.ensures) ∙ sym c.before.before.check-body.ensures ∙ c.enum-told2.given.1))
+    let l = c.loop-i in
+    let a = c.args in
+    (l.invariant.0, checked-more a.n (verdict_at a.file.now) l.i l.invariant.1 (omega arith) (sym (ap₂ body_verdict l.invariant.0 c.body_of.ensures) ∙ sym c.check_body-verdict.ensures ∙ c.in_default.is))
 
-returns-2 : tie.Need-returns-2 invariant-loop decreases-loop
+returns-2 : tie.Need-returns invariant-loop decreases-loop
 returns-2 c =
-    let l = c.before.loop in
-    let a = c.before.before.before.before.args in
+    let l = c.loop-i in
+    let a = c.args in
     sym (checked-ends a.n (verdict_at a.file.now) l.i l.invariant.1 (omega arith))
 
-pub check-bodies-spec : {M : Type 1} → statement M
-check-bodies-spec =
+pub check_bodies_spec : {M : Type 1} → statement M
+check_bodies_spec =
     tie.close
     (tie.spec
     invariant-loop

@@ -9,26 +9,31 @@ use Rattle.casefile.proofs.checking.check_body.Statement.{statement}
 use Rattle.casefile.proofs.checking.check_body.Tie as tie
 
 -- the body passes the test
-fits : (c : tie.Else1) → BodyFits c.before.before.before.args.edition c.before.before.before.args.body.now
-fits c = c.before.body-fits.ensures.fits (not-false _ c.if1.false)
+fits : (c : tie.Else-not-body_fits) → BodyFits c.args.edition c.args.body.now
+fits c = c.body_fits.ensures.fits (c.if-not-body_fits.false)
 
-body-fits-requires : tie.Need-body-fits-requires
+body-fits-requires : tie.Need-body_fits-requires
 body-fits-requires c κs = search rules
 
-returns : tie.Need-returns
-returns c = sym (c.before.body-fits.ensures.misfits (not-true _ c.if1.true))
+returns : tie.Need-returns-then-not-body_fits
+returns c = sym (c.body_fits.ensures.misfits (c.if-not-body_fits.true))
 
-read-body-requires : tie.Need-read-body-requires
+read-body-requires : tie.Need-read_body-requires
 read-body-requires c κs = fits c
 
-check-numbers-requires : tie.Need-check-numbers-requires
-check-numbers-requires c κs = ap zone_count_invalid c.read-body.ensures ∙ zone_count_fits _ _ (fits c.before).zones
+check-numbers-requires : tie.Need-check_numbers-requires
+check-numbers-requires c κs = ap zone_count_invalid c.read_body.ensures ∙ zone_count_fits _ _ (fits c.before).zones
 
-returns-2 : tie.Need-returns-2
+returns-2 : tie.Need-returns
 returns-2 c =
-    c.check-numbers.ensures ∙ ap unit_verdict c.before.read-body.ensures ∙ sym (body-fits _ _ (fits c.before.before))
+    c.check_numbers.ensures ∙ ap unit_verdict c.read_body.ensures ∙ sym (body-fits _ _ (fits c.before.before))
 
-pub check-body-spec : {M : Type 1} → statement M
-check-body-spec =
+pub check_body_spec : {M : Type 1} → statement M
+check_body_spec =
     tie.close
-    (tie.spec body-fits-requires returns read-body-requires check-numbers-requires returns-2)
+    (tie.spec
+    body-fits-requires
+    returns
+    read-body-requires
+    check-numbers-requires
+    returns-2)

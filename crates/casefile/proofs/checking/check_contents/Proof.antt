@@ -5,18 +5,23 @@ use Rattle.casefile.proofs.Contents.{contents-verdict}
 use Rattle.casefile.proofs.checking.check_contents.Statement.{statement}
 use Rattle.casefile.proofs.checking.check_contents.Tie as tie
 
-contents-invalid-requires : tie.Need-contents-invalid-requires
+contents-invalid-requires : tie.Need-contents_invalid-requires
 contents-invalid-requires c κs = search rules
 
-returns : tie.Need-returns
+returns : tie.Need-returns-then-contents_invalid
 returns c =
-    let s = c.before.before.before in
-    sym (contents-verdict s.args.file.now s.args.n s.requires.units ∙ rw (sym c.before.contents-invalid.ensures ∙ c.if1.true))
+    let s = c in
+    sym (contents-verdict s.args.file.now s.args.n s.requires.units ∙ rw (sym c.contents_invalid.ensures ∙ c.if-contents_invalid.true))
 
-returns-2 : tie.Need-returns-2
+returns-2 : tie.Need-returns
 returns-2 c =
-    let s = c.before.before.before in
-    sym (contents-verdict s.args.file.now s.args.n s.requires.units ∙ rw (sym c.before.contents-invalid.ensures ∙ c.if1.false))
+    let s = c in
+    sym (contents-verdict s.args.file.now s.args.n s.requires.units ∙ rw (sym c.contents_invalid.ensures ∙ c.if-contents_invalid.false))
 
-pub check-contents-spec : {M : Type 1} → statement M
-check-contents-spec = tie.close (tie.spec contents-invalid-requires returns returns-2)
+pub check_contents_spec : {M : Type 1} → statement M
+check_contents_spec =
+    tie.close
+    (tie.spec
+    contents-invalid-requires
+    returns
+    returns-2)

@@ -7,8 +7,14 @@ use borrow.Author.Rules.{rules}
 use Rattle.packing.proofs.reading.linear_loss.Statement.{statement}
 use Rattle.packing.proofs.reading.linear_loss.Tie as tie
 
-returns-2 : tie.Need-returns-2
-returns-2 c = let a = c.before.args in sym (get_or-eq_default a.b1.now (pos 0) {n = a.i} (omega arith))
+returns-2 : tie.Need-returns
+returns-2 c = let a = c.args in sym (get_or-eq_default a.b1.now (pos 0) {n = a.i} (omega arith))
 
-pub linear-loss-spec : {M : Type 1} → statement M
-linear-loss-spec = tie.close (tie.spec (λ c. search rules) (λ c. search rules) (λ c. search rules) returns-2)
+pub linear_loss_spec : {M : Type 1} → statement M
+linear_loss_spec =
+    tie.close
+    (tie.spec
+    (λ c. search rules)
+    (λ c. search rules)
+    (λ c. search rules)
+    returns-2)
