@@ -48,16 +48,16 @@ loop-again : tie.Need-loop-k-preserved invariant-loop decreases-loop
 loop-again c =
     let l = c.loop-k in
     let a = c.args in
-    let long : length a.t1 ≡ 8 = search rules in
-    (omega arith, simp length-set l.invariant.1, rw (add-one l.k) (take-suc-set l.narrowed l.k (get_or a.t1 l.k 0) (omega (arith, l.invariant.1)) ∙ ap (λ (s : List ℕ). s ++ (get_or a.t1 l.k 0 ∷ [])) l.invariant.2 ∙ sym (take-suc a.t1 l.k 0 (omega (arith, long)))))
+    let long : length a.edges ≡ 8 = search rules in
+    (omega arith, simp length-set l.invariant.1, rw (add-one l.k) (take-suc-set l.narrowed l.k (get_or a.edges l.k 0) (omega (arith, l.invariant.1)) ∙ ap (λ (s : List ℕ). s ++ (get_or a.edges l.k 0 ∷ [])) l.invariant.2 ∙ sym (take-suc a.edges l.k 0 (omega (arith, long)))))
 
 returns : tie.Need-returns invariant-loop decreases-loop
 returns c =
     let l = c.loop-k in
     let a = c.args in
-    let long : length a.t1 ≡ 8 = search rules in
+    let long : length a.edges ≡ 8 = search rules in
     let e : l.k ≡ 8 = omega arith in
-    sym (eight l.narrowed l.invariant.1) ∙ rw e at l.invariant.2 ∙ eight a.t1 long
+    sym (eight l.narrowed l.invariant.1) ∙ rw e at l.invariant.2 ∙ eight a.edges long
 
 pub narrow_spec : {M : Type 1} → statement M
 narrow_spec =

@@ -47,6 +47,11 @@ zone-left c =
     let l = (at c.before).loop-k.invariant.zone in
     (omega arith, omega (arith, (entry c.before).requires.0.zone_count))
 
+zone-left-unread : (c : tie.Else-k-zones-unread invariant-loop decreases-loop) → let k = (at c.before).loop-k.k in (k < (entry c.before).args.u.zone_count) × (k < 4)
+zone-left-unread c =
+    let l = (at c.before).loop-k.invariant.zone in
+    (omega arith, omega (arith, (entry c.before).requires.0.zone_count))
+
 -- ---- the regions
 
 loop-holds : tie.Need-loop-k-init invariant-loop decreases-loop
@@ -156,16 +161,16 @@ same_length : tie.Need-shape_of-ends-then-k-zones invariant-loop decreases-loop
 same_length c = simp length-set (simp length-set at (at c.before).loop-k.invariant.size)
 
 mul-from : tie.Need-overflow_mul-from invariant-loop decreases-loop
-mul-from c = omega (arith, zone-left c)
+mul-from c = omega (arith, zone-left-unread c)
 
 add-from : tie.Need-overflow_add-from invariant-loop decreases-loop
-add-from c = omega (arith, zone-left c)
+add-from c = omega (arith, zone-left-unread c)
 
 mul-from-2 : tie.Need-offset_bounds-narrowed-k invariant-loop decreases-loop
-mul-from-2 c = omega (arith, zone-left c)
+mul-from-2 c = omega (arith, zone-left-unread c)
 
 array-read-from : tie.Need-bounds-narrowed-k invariant-loop decreases-loop
-array-read-from c = omega (arith, zone-left c)
+array-read-from c = omega (arith, zone-left-unread c)
 
 add-k : tie.Need-overflow_add-k invariant-loop decreases-loop
 add-k c = omega (arith, zone-left c)

@@ -30,20 +30,26 @@ module _ (c : tie.Start) where
   difference-fits : SFits w64 (pos 100000000 -ℤ z)
   difference-fits = fits difference (omega (arith, fits_dn narrow)) (omega (arith, fits-up narrow))
 
-cast-result : tie.Need-overflow-cast-result
+cast-result : tie.Need-overflow_cast-result
 cast-result c = rw (to_z-of_z {w = w32} (narrow c.before.before)) (widened-fits (narrow c.before.before))
 
-sub-result : tie.Need-overflow-sub-result
+sub-result : tie.Need-overflow_sub-result
 sub-result c = rw (widened (narrow c.before.before)) (difference-fits c.before.before)
 
-cast-result-2 : tie.Need-overflow-cast-result-2
+cast-result-2 : tie.Need-overflow_cast-result-2
 cast-result-2 c = rw (widened (narrow c.before.before), to_z-of_z {w = w64} (difference-fits c.before.before)) (not_negative (difference c.before.before) (omega (arith, below c.before.before)), record { fits = omega (arith, size_is (difference c.before.before) (omega (arith, below c.before.before)), fits_dn (narrow c.before.before)) })
 
 returns : tie.Need-returns
 unfolding linear_factor
 returns c =
     rw (widened (narrow c.before.before), to_z-of_z {w = w64} (difference-fits c.before.before))
-    (size_is (difference c.before.before) (omega (arith, below c.before.before)) ∙ sym (natural-up (pos 100000000 -ℤ c.before.before.args.u.b1) ∙ up_is (difference c.before.before)))
+    (size_is (difference c.before.before) (omega (arith, below c.before.before)) ∙ sym (natural-up (pos 100000000 -ℤ c.args.u.b1) ∙ up_is (difference c.before.before)))
 
-pub linear-factor-spec : {M : Type 1} → statement M
-linear-factor-spec = tie.close (tie.spec cast-result sub-result cast-result-2 returns)
+pub linear_factor_spec : {M : Type 1} → statement M
+linear_factor_spec =
+    tie.close
+    (tie.spec
+    cast-result
+    sub-result
+    cast-result-2
+    returns)

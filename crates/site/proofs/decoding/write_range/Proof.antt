@@ -7,28 +7,28 @@ use Rattle.regions.proofs.KeptOutside.{first-written, second-written, both-kept}
 use Rattle.site.proofs.decoding.write_range.Statement.{statement}
 use Rattle.site.proofs.decoding.write_range.Tie as tie
 
-cast-ranges : tie.Need-cast-ranges
+cast-ranges : tie.Need-overflow_cast-ranges
 cast-ranges c = search rules
 
-mul-ranges : tie.Need-mul-ranges
+mul-ranges : tie.Need-overflow_mul-ranges
 mul-ranges c = search rules
 
-slice-write-ranges : tie.Need-slice-write-ranges
+slice-write-ranges : tie.Need-bounds-ranges-i
 slice-write-ranges c = search rules
 
-cast-ranges-2 : tie.Need-cast-ranges-2
+cast-ranges-2 : tie.Need-overflow_cast-ranges-2
 cast-ranges-2 c = search rules
 
-mul-ranges-2 : tie.Need-mul-ranges-2
+mul-ranges-2 : tie.Need-overflow_mul-ranges-2
 mul-ranges-2 c = search rules
 
-add-ranges : tie.Need-add-ranges
+add-ranges : tie.Need-overflow_add-ranges
 add-ranges c = search rules
 
-slice-write-ranges-2 : tie.Need-slice-write-ranges-2
+slice-write-ranges-2 : tie.Need-bounds-ranges-i-2
 slice-write-ranges-2 c = simp length-set (omega arith)
 
-same_length : tie.Need-same-length
+same_length : tie.Need-shape_of-ranges
 same_length c = simp length-set
 
 returns : tie.Need-returns
@@ -41,8 +41,8 @@ returns c =
       kept = both-kept s (2 * i) (2 * i + 1) c.args.first c.args.last (omega arith) (omega arith) (omega arith) (omega arith);
     }
 
-pub write-range-spec : {M : Type 1} → statement M
-write-range-spec =
+pub write_range_spec : {M : Type 1} → statement M
+write_range_spec =
     tie.close
     (tie.spec
     cast-ranges
