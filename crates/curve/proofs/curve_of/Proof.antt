@@ -5,26 +5,26 @@ use borrow.Author.Rules.{rules}
 use Rattle.curve.proofs.curve_of.Statement.{statement}
 use Rattle.curve.proofs.curve_of.Tie as tie
 
-mul-t16 : tie.Need-overflow-mul-t16
-mul-t16 c = omega (arith, at-multiplier c.before.before.requires)
+mul-t16 : tie.Need-overflow_mul-result-2
+mul-t16 c = omega (arith, at-multiplier c.requires)
 
-add-t17 : tie.Need-overflow-add-t17
-add-t17 c = omega (arith, at-multiplier c.before.before.requires)
+add-t17 : tie.Need-overflow_add-result-3
+add-t17 c = omega (arith, at-multiplier c.requires)
 
-mul-t30 : tie.Need-overflow-mul-t30
-mul-t30 c = omega (arith, at-multiplier c.before.before.before.before.requires)
+mul-t30 : tie.Need-overflow_mul-result-4
+mul-t30 c = omega (arith, at-multiplier c.requires)
 
-cast-t31 : tie.Need-overflow-cast-t31
-cast-t31 c = omega (arith, at-multiplier c.before.before.before.before.requires)
+cast-t31 : tie.Need-overflow_cast-result-2
+cast-t31 c = omega (arith, at-multiplier c.requires)
 
-sub-t32 : tie.Need-overflow-sub-t32
-sub-t32 c = line-fits c.before.before.before.before.requires
+sub-t32 : tie.Need-overflow_sub-result
+sub-t32 c = line-fits c.requires
 
 returns : tie.Need-returns
-returns c = curve-computed c.before.before.before.before.before.requires
+returns c = curve-computed c.requires
 
-pub curve-of-spec : {M : Type 1} → statement M
-curve-of-spec =
+pub curve_of_spec : {M : Type 1} → statement M
+curve_of_spec =
     tie.close
     (tie.spec
     (λ c. search rules)

@@ -75,32 +75,40 @@ module _ (c : tie.Start) where
   fourth-is : Is (to_z w64 (of_z w64 Third) +ℤ to_z w64 k) (a * p * p + positive_part l * p + k) (negative_part l * p + 0)
   fourth-is = is_add third-read (cast k (omega (arith, c.requires.0.constant)))
 
-cast-x : tie.Need-overflow-cast-x
+cast-x : tie.Need-overflow_cast-x
 cast-x c = search rules
 
-cast-result : tie.Need-overflow-cast-result
-cast-result c = omega (arith, c.before.requires.0.square)
+cast-result : tie.Need-overflow_cast-result
+cast-result c = omega (arith, c.requires.0.square)
 
-mul-result : tie.Need-overflow-mul-result
+mul-result : tie.Need-overflow_mul-result
 mul-result c = fits (first-is c.before) (omega (arith, squared c.before)) (omega arith)
 
-add-result : tie.Need-overflow-add-result
-add-result c = fits (second_is c.before) (omega (arith, squared c.before, c.before.requires.0.above)) (omega (arith, c.before.requires.0.below))
+add-result : tie.Need-overflow_add-result
+add-result c = fits (second_is c.before) (omega (arith, squared c.before, c.requires.0.above)) (omega (arith, c.requires.0.below))
 
-mul-result-2 : tie.Need-overflow-mul-result-2
+mul-result-2 : tie.Need-overflow_mul-result-2
 mul-result-2 c = fits (third-is c.before) (omega (arith, slope c.before, above c.before)) (omega (arith, below c.before))
 
-cast-result-2 : tie.Need-overflow-cast-result-2
-cast-result-2 c = omega (arith, c.before.requires.0.constant)
+cast-result-2 : tie.Need-overflow_cast-result-2
+cast-result-2 c = omega (arith, c.requires.0.constant)
 
-add-result-2 : tie.Need-overflow-add-result-2
-add-result-2 c = fits (fourth-is c.before) (omega (arith, slope c.before, above c.before, c.before.requires.0.constant)) (omega (arith, below c.before))
+add-result-2 : tie.Need-overflow_add-result-2
+add-result-2 c = fits (fourth-is c.before) (omega (arith, slope c.before, above c.before, c.requires.0.constant)) (omega (arith, below c.before))
 
 returns : tie.Need-returns
 returns c =
-    same (kept (fourth-is c.before) (omega (arith, slope c.before, above c.before, c.before.requires.0.constant)) (omega (arith, below c.before))) (height-is c.before.args.c c.before.args.p) (omega arith)
+    same (kept (fourth-is c.before) (omega (arith, slope c.before, above c.before, c.requires.0.constant)) (omega (arith, below c.before))) (height-is c.args.c c.args.p) (omega arith)
 
-pub priced-cost-spec : {M : Type 1} → statement M
-priced-cost-spec =
+pub priced_cost_spec : {M : Type 1} → statement M
+priced_cost_spec =
     tie.close
-    (tie.spec cast-x cast-result mul-result add-result mul-result-2 cast-result-2 add-result-2 returns)
+    (tie.spec
+    cast-x
+    cast-result
+    mul-result
+    add-result
+    mul-result-2
+    cast-result-2
+    add-result-2
+    returns)

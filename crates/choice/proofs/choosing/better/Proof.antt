@@ -12,57 +12,67 @@ use Rattle.choice.proofs.Giving.{said}
 use Rattle.choice.proofs.choosing.better.Statement.{statement}
 use Rattle.choice.proofs.choosing.better.Tie as tie
 
-priced-cost-requires : tie.Need-priced-cost-requires
+priced-cost-requires : tie.Need-priced_cost-x-requires
 priced-cost-requires c κs = search rules
 
-priced-cost-requires-2 : tie.Need-priced-cost-requires-2
+priced-cost-requires-2 : tie.Need-priced_cost-y-requires
 priced-cost-requires-2 c κs = search rules
 
 -- ---- the two priced costs
 
-abbrev entry : tie.After-priced-cost2 → tie.Start
+abbrev entry : tie.After-priced_cost-y → tie.Start
 entry c = c.before.before
 
-below-read : (c : tie.After-priced-cost2) → let a = (entry c).args in to_z w64 (of_z w64 c.before.priced-cost.result) ≡ height a.c a.below
-below-read c = to_z-of_z {w = w64} (search rules) ∙ c.before.priced-cost.ensures
+below-read : (c : tie.After-priced_cost-y) → let a = (entry c).args in to_z w64 (of_z w64 c.priced_cost-x.result) ≡ height a.c a.below
+below-read c = to_z-of_z {w = w64} (search rules) ∙ c.priced_cost-x.ensures
 
-above-read : (c : tie.After-priced-cost2) → let a = (entry c).args in to_z w64 (of_z w64 c.priced-cost2.result) ≡ height a.c a.above
-above-read c = to_z-of_z {w = w64} (search rules) ∙ c.priced-cost2.ensures
+above-read : (c : tie.After-priced_cost-y) → let a = (entry c).args in to_z w64 (of_z w64 c.priced_cost-y.result) ≡ height a.c a.above
+above-read c = to_z-of_z {w = w64} (search rules) ∙ c.priced_cost-y.ensures
 
 only-requires : tie.Need-only-requires
 only-requires c κs = search rules
 
-returns : tie.Need-returns
+returns : tie.Need-returns-then-x-y
 returns c =
-    let t = c.before in
-    let d = t.before in
-    let a = (entry d).args in
-    let b = prefers_lower (height a.c) a.below a.above (under (itself _) (itself _) (when_lt (is_same (below-read d) (itself _)) (is_same (above-read d) (itself _)) t.if1.true)) in
+    let t = c in
+    let d = t in
+    let a = (entry d.before.before).args in
+    let b = prefers_lower (height a.c) a.below a.above (under (itself _) (itself _) (when_lt (is_same (below-read d.before.before) (itself _)) (is_same (above-read d.before.before) (itself _)) t.if-x-y.true)) in
     (c.only.ensures.0 ∙ sym b.0, c.only.ensures.1 ∙ sym b.1, λ _. c.only.ensures.1 ∙ sym c.only.ensures.0)
 
-only-requires-2 : tie.Need-only-requires-2
+only-requires-2 : tie.Need-only-requires-then-y-x
 only-requires-2 c κs = search rules
 
-returns-2 : tie.Need-returns-2
+returns-2 : tie.Need-returns-then-y-x
 returns-2 c =
-    let t = c.before in
-    let d = t.before.before in
-    let a = (entry d).args in
-    let b = prefers_upper (height a.c) a.below a.above (under (itself _) (itself _) (when_lt (is_same (above-read d) (itself _)) (is_same (below-read d) (itself _)) t.if2.true)) in
-    (c.only2.ensures.0 ∙ sym b.0, c.only2.ensures.1 ∙ sym b.1, λ _. c.only2.ensures.1 ∙ sym c.only2.ensures.0)
+    let t = c in
+    let d = t in
+    let a = (entry d.before.before.before).args in
+    let b = prefers_upper (height a.c) a.below a.above (under (itself _) (itself _) (when_lt (is_same (above-read d.before.before.before) (itself _)) (is_same (below-read d.before.before.before) (itself _)) t.if-y-x.true)) in
+    (c.only-then-y-x.ensures.0 ∙ sym b.0, c.only-then-y-x.ensures.1 ∙ sym b.1, λ _. c.only-then-y-x.ensures.1 ∙ sym c.only-then-y-x.ensures.0)
 
 both-requires : tie.Need-both-requires
 both-requires c κs = search rules
 
-returns-3 : tie.Need-returns-3
+returns-3 : tie.Need-returns
 returns-3 c =
-    let t = c.before in
-    let d = t.before.before in
-    let a = (entry d).args in
-    let k = when_ge (is_same (below-read d) (itself _)) (is_same (above-read d) (itself _)) t.before.if1.false in
-    let h = when_ge (is_same (above-read d) (itself _)) (is_same (below-read d) (itself _)) t.if2.false in
+    let t = c in
+    let d = t in
+    let a = (entry d.before.before.before).args in
+    let k = when_ge (is_same (below-read d.before.before.before) (itself _)) (is_same (above-read d.before.before.before) (itself _)) t.if-x-y.false in
+    let h = when_ge (is_same (above-read d.before.before.before) (itself _)) (is_same (below-read d.before.before.before) (itself _)) t.if-y-x.false in
     let b = prefers_both (height a.c) a.below a.above (same (itself _) (itself _) (omega arith)) in
     (c.both.ensures.0 ∙ sym b.0, c.both.ensures.1 ∙ sym b.1, said c.both.ensures.2)
 
-pub better-spec : {M : Type 1} → statement M
-better-spec = tie.close (tie.spec priced-cost-requires priced-cost-requires-2 only-requires returns only-requires-2 returns-2 both-requires returns-3)
+pub better_spec : {M : Type 1} → statement M
+better_spec =
+    tie.close
+    (tie.spec
+    priced-cost-requires
+    priced-cost-requires-2
+    only-requires
+    returns
+    only-requires-2
+    returns-2
+    both-requires
+    returns-3)

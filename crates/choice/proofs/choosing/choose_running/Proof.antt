@@ -65,34 +65,34 @@ module _ (c : tie.Start) where
   product-read : (p : ℕ) → p ≤ 10000 → Is (to_z w64 (2 * a * p)) (2 * a * p) 0
   product-read p h = cast (2 * a * p) (omega (arith, product p h))
 
-mul-lowest : tie.Need-overflow-mul-lowest
-mul-lowest c = omega (arith, c.before.requires.few, c.before.requires.regions.some)
+mul-lowest : tie.Need-overflow_mul-lowest
+mul-lowest c = omega (arith, c.requires.few, c.requires.regions.some)
 
-mul-lowest-2 : tie.Need-overflow-mul-lowest-2
-mul-lowest-2 c = omega (arith, c.before.requires.few, c.before.requires.regions.some)
+mul-lowest-2 : tie.Need-offset_bounds-ends-first
+mul-lowest-2 c = omega (arith, c.requires.few, c.requires.regions.some)
 
-element-copy-out-lowest : tie.Need-element-copy-out-lowest
-element-copy-out-lowest c = omega (arith, c.before.requires.few, c.before.requires.regions.some)
+element-copy-out-lowest : tie.Need-bounds-ends-first
+element-copy-out-lowest c = omega (arith, c.requires.few, c.requires.regions.some)
 
-mul-highest : tie.Need-overflow-mul-highest
+mul-highest : tie.Need-overflow_mul-highest
 mul-highest c = search rules
 
-add-highest : tie.Need-overflow-add-highest
+add-highest : tie.Need-overflow_add-highest
 add-highest c = search rules
 
-mul-highest-2 : tie.Need-overflow-mul-highest-2
+mul-highest-2 : tie.Need-offset_bounds-ends-last
 mul-highest-2 c = search rules
 
-element-copy-out-highest : tie.Need-element-copy-out-highest
+element-copy-out-highest : tie.Need-bounds-ends-last
 element-copy-out-highest c = search rules
 
-cast-over : tie.Need-overflow-cast-over
+cast-over : tie.Need-overflow_cast-over
 cast-over c = search rules
 
-sub-over : tie.Need-overflow-sub-over
-sub-over c = over-fits c.before.before.before
+sub-over : tie.Need-overflow_sub-over
+sub-over c = over-fits c.before.before.before.before
 
-mul-by : tie.Need-overflow-mul-by
+mul-by : tie.Need-overflow_mul-by
 mul-by c = search rules
 
 wide-requires : tie.Need-wide-requires
@@ -101,61 +101,61 @@ wide-requires c κs = search rules
 -- ---- the two ends
 
 abbrev entry : tie.After-wide → tie.Start
-entry c = c.before.before.before.before
+entry c = c.before.before.before.before.before
 
-abbrev entry-2 : tie.After-wide2 → tie.Start
+abbrev entry-2 : tie.After-wide-2 → tie.Start
 entry-2 c = entry c.before.before
 
-mul-if1 : tie.Need-overflow-mul-if1
+mul-if1 : tie.Need-overflow_mul-by-2
 mul-if1 c = rw c.wide.ensures (omega (arith, product (entry c) (highest-is (entry c)) (high_small (entry c))))
 
-cast-if1 : tie.Need-overflow-cast-if1
+cast-if1 : tie.Need-overflow_cast-by
 cast-if1 c = rw c.wide.ensures (omega (arith, product (entry c) (highest-is (entry c)) (high_small (entry c))))
 
 highest-read : (c : tie.After-wide) → Is (to_z w64 (2 * a (entry c) * c.wide.result)) (2 * a (entry c) * highest-is (entry c)) 0
 highest-read c = subst⁻¹ (λ (n : ℕ). Is (to_z w64 (2 * a (entry c) * n)) (2 * a (entry c) * highest-is (entry c)) 0) c.wide.ensures (product-read (entry c) (highest-is (entry c)) (high_small (entry c)))
 
-lowest-read : (c : tie.After-wide2) → Is (to_z w64 (2 * a (entry-2 c) * c.wide2.result)) (2 * a (entry-2 c) * lowest-is (entry-2 c)) 0
-lowest-read c = subst⁻¹ (λ (n : ℕ). Is (to_z w64 (2 * a (entry-2 c) * n)) (2 * a (entry-2 c) * lowest-is (entry-2 c)) 0) c.wide2.ensures (product-read (entry-2 c) (lowest-is (entry-2 c)) (low_small (entry-2 c)))
+lowest-read : (c : tie.After-wide-2) → Is (to_z w64 (2 * a (entry-2 c) * c.wide-2.result)) (2 * a (entry-2 c) * lowest-is (entry-2 c)) 0
+lowest-read c = subst⁻¹ (λ (n : ℕ). Is (to_z w64 (2 * a (entry-2 c) * n)) (2 * a (entry-2 c) * lowest-is (entry-2 c)) 0) c.wide-2.ensures (product-read (entry-2 c) (lowest-is (entry-2 c)) (low_small (entry-2 c)))
 
 only-requires : tie.Need-only-requires
 only-requires c κs = search rules
 
-returns : tie.Need-returns
+returns : tie.Need-returns-then-over-by
 returns c =
-    let d = c.before in
-    let b = entry d.before in
-    gives_only c.only.ensures (past-highest b.pre (omega (arith, when_lt (highest-read d.before) (over-read b) d.if1.true)))
+    let d = c in
+    let b = entry d.before.before in
+    gives_only c.only.ensures (past-highest b.requires (omega (arith, when_lt (highest-read d.before.before) (over-read b) d.if-over-by.true)))
 
 wide-requires-2 : tie.Need-wide-requires-2
 wide-requires-2 c κs = search rules
 
-mul-if2 : tie.Need-overflow-mul-if2
-mul-if2 c = rw c.wide2.ensures (omega (arith, product (entry-2 c) (lowest-is (entry-2 c)) (low_small (entry-2 c))))
+mul-if2 : tie.Need-overflow_mul-by-3
+mul-if2 c = rw c.wide-2.ensures (omega (arith, product (entry-2 c) (lowest-is (entry-2 c)) (low_small (entry-2 c))))
 
-cast-if2 : tie.Need-overflow-cast-if2
-cast-if2 c = rw c.wide2.ensures (omega (arith, product (entry-2 c) (lowest-is (entry-2 c)) (low_small (entry-2 c))))
+cast-if2 : tie.Need-overflow_cast-by-2
+cast-if2 c = rw c.wide-2.ensures (omega (arith, product (entry-2 c) (lowest-is (entry-2 c)) (low_small (entry-2 c))))
 
-only-requires-2 : tie.Need-only-requires-2
+only-requires-2 : tie.Need-only-requires-then-over-by-2
 only-requires-2 c κs = search rules
 
-returns-2 : tie.Need-returns-2
+returns-2 : tie.Need-returns-then-over-by-2
 returns-2 c =
-    let d = c.before in
-    let b = entry-2 d.before in
-    gives_only c.only2.ensures (before-lowest b.pre (omega (arith, when_lt (over-read b) (lowest-read d.before) d.if2.true)))
+    let d = c in
+    let b = entry-2 d.before.before in
+    gives_only c.only-then-over-by-2.ensures (before-lowest b.requires (omega (arith, when_lt (over-read b) (lowest-read d.before.before) d.if-over-by-2.true)))
 
 -- ---- the vertex between them
 
-module _ (c : tie.Else2) where
+module _ (c : tie.Else-over-by-2) where
   abbrev b : tie.Start
   b = entry-2 c.before
 
   below-highest : a b + t b ≤ 2 * (a b * highest-is b) + s b
-  below-highest = omega (arith, when_ge (highest-read c.before.before.before) (over-read b) c.before.before.if1.false)
+  below-highest = omega (arith, when_ge (highest-read c.before.before.before) (over-read b) c.if-over-by.false)
 
   above-lowest : 2 * (a b * lowest-is b) + s b ≤ a b + t b
-  above-lowest = omega (arith, when_ge (over-read b) (lowest-read c.before) c.if2.false)
+  above-lowest = omega (arith, when_ge (over-read b) (lowest-read c.before) c.if-over-by-2.false)
 
   not-less : s b ≤ a b + t b
   not-less = omega (arith, above-lowest)
@@ -163,15 +163,15 @@ module _ (c : tie.Else2) where
 both-requires : tie.Need-both-requires
 both-requires c κs = search rules
 
-returns-3 : tie.Need-returns-3
+returns-3 : tie.Need-returns-then-by-eq0
 returns-3 c =
-    let d = c.before.before in
-    let none : a (b d) ≡ 0 = omega (arith, c.before.if3.true) in
+    let d = c in
+    let none : a (b d.before.before) ≡ 0 = omega (arith, c.if-by-eq0.true) in
     gives_both c.both.ensures
-    (all-tied (b d).requires none (omega (arith, below-highest d, above-lowest d, ap (λ (n : ℕ). n * highest-is (b d)) none, ap (λ (n : ℕ). n * lowest-is (b d)) none)))
+    (all-tied (b d.before.before).requires none (omega (arith, below-highest d.before.before, above-lowest d.before.before, ap (λ (n : ℕ). n * highest-is (b d.before.before)) none, ap (λ (n : ℕ). n * lowest-is (b d.before.before)) none)))
 
-module _ (c : tie.Else3) where
-  abbrev d : tie.Else2
+module _ (c : tie.Else-by-eq0) where
+  abbrev d : tie.Else-over-by-2
   d = c.before
 
   abbrev e : tie.Start
@@ -182,7 +182,7 @@ module _ (c : tie.Else3) where
     where
       by : Dec (0 < a e) → 0 < a e
       by (yes h) = h
-      by (no h) = absurd (c.if3.false (omega arith))
+      by (no h) = absurd (c.if-by-eq0.false (omega arith))
 
   abbrev v : ℕ
   v = (a e + t e - s e) / (2 * a e)
@@ -194,19 +194,19 @@ module _ (c : tie.Else3) where
   v-to = vertex-to e.args.c positive (not-less d) (highest-is e) (below-highest d)
 
   v-runs : 1 ≤ v
-  v-runs = omega (arith, v-from, e.pre.runs)
+  v-runs = omega (arith, v-from, e.requires.runs)
 
   quotient : Is (quot_z (to_z w64 (of_z w64 (over e))) (to_z w64 (2 * a e))) v 0
-  quotient = is_quotient (over-read e) (not-less d) (2 * a e) (omega (arith, e.pre.curve.square))
+  quotient = is_quotient (over-read e) (not-less d) (2 * a e) (omega (arith, e.requires.curve.square))
 
   rest : Is (rem_z (to_z w64 (of_z w64 (over e))) (to_z w64 (2 * a e))) ((a e + t e - s e) % (2 * a e)) 0
-  rest = is-remainder (over-read e) (not-less d) (2 * a e) (omega (arith, e.pre.curve.square))
+  rest = is-remainder (over-read e) (not-less d) (2 * a e) (omega (arith, e.requires.curve.square))
 
   rest-small : (a e + t e - s e) % (2 * a e) < 2 * a e
   rest-small = mod-lt (a e + t e - s e) (omega (arith, positive))
 
   rest_read : Is (to_z w64 (of_z w64 (rem_z (to_z w64 (of_z w64 (over e))) (to_z w64 (2 * a e))))) ((a e + t e - s e) % (2 * a e)) 0
-  rest_read = kept rest (omega (arith, rest-small, e.pre.curve.square)) (omega arith)
+  rest_read = kept rest (omega (arith, rest-small, e.requires.curve.square)) (omega arith)
 
   v-small : v ≤ 10000
   v-small = omega (arith, v-to, high_small e)
@@ -217,26 +217,26 @@ module _ (c : tie.Else3) where
   v-is : nat_abs (to_z w64 (of_z w64 (quot_z (to_z w64 (of_z w64 (over e))) (to_z w64 (2 * a e))))) ≡ v
   v-is = omega (arith, size_is v-read (omega arith))
 
-cast-twice : tie.Need-overflow-cast-twice
+cast-twice : tie.Need-overflow_cast-twice
 cast-twice c = search rules
 
-div-choose-beside : tie.Need-nonzero-div-choose-beside
+div-choose-beside : tie.Need-nonzero_div-over
 div-choose-beside c = (omega (arith, positive c), fits (quotient c) (omega (arith, v-small c)) (omega arith))
 
-cast-choose-beside : tie.Need-overflow-cast-choose-beside
+cast-choose-beside : tie.Need-overflow_cast-over-2
 cast-choose-beside c = (not_negative (v-read c) (omega arith), record { fits = omega (arith, v-is c, v-small c) })
 
-rem-choose-beside : tie.Need-nonzero-rem-choose-beside
+rem-choose-beside : tie.Need-nonzero_rem-over
 rem-choose-beside c = (omega (arith, positive c), fits (quotient c) (omega (arith, v-small c)) (omega arith))
 
-choose-beside-requires : tie.Need-choose-beside-requires
+choose-beside-requires : tie.Need-choose_beside-requires
 choose-beside-requires c κs =
     let x = e c in
     let r = (a x + t x - s x) % (2 * a x) in
     let z = rem_z (to_z w64 (of_z w64 (over x))) (to_z w64 (2 * a x)) in
     rw (v-is c)
     (record {
-      running = x.pre;
+      running = x.requires;
       from = v-from c;
       to = v-to c;
       valley = vertex-valley x.args.c (positive c) (not-less (d c));
@@ -249,11 +249,11 @@ choose-beside-requires c κs =
     some : (r : ℕ) → ¬ (r ≡ 0) → 0 < r
     some r n = omega arith
 
-returns-4 : tie.Need-returns-4
+returns-4 : tie.Need-returns
 returns-4 c = search rules
 
-pub choose-running-spec : {M : Type 1} → statement M
-choose-running-spec =
+pub choose_running_spec : {M : Type 1} → statement M
+choose_running_spec =
     tie.close
     (tie.spec
     mul-lowest

@@ -6,38 +6,46 @@ use Rattle.evaluation.proofs.Covering.{of_file}
 use Rattle.evaluation.proofs.step_one.first_best.Statement.{statement}
 use Rattle.evaluation.proofs.step_one.first_best.Tie as tie
 
-abbrev entry : tie.After-decode → tie.Start
+abbrev entry : tie.After-decode-decoded → tie.Start
 entry c = c.before.before.before.before.before
 
-decode-requires : tie.Need-decode-requires
+decode-requires : tie.Need-decode-decoded-requires
 decode-requires c κs = search rules
 
-enum-known-decoded : tie.Need-enum-known-decoded
+enum-known-decoded : tie.Need-enum_known-decoded
 enum-known-decoded c = search rules
 
-returns : tie.Need-returns
+returns : tie.Need-returns-in-Refused
 returns c =
-    let d = c.before.before.before in
-    let l = d.decode.new in
-    subst (Decodes (entry d).args.file.now l.1.0 l.1.1.0 l.1.1.1.0) c.before.decoded.given.1 d.decode.ensures
+    let d = c in
+    let l = d.decode-decoded.new in
+    subst (Decodes (entry d.before).args.file.now l.1.0 l.1.1.0 l.1.1.1.0) c.in-Refused.is d.decode-decoded.ensures
 
-enum-known-decoded-2 : tie.Need-enum-known-decoded-2
+enum-known-decoded-2 : tie.Need-enum_known-decoded-in-Site-1
 enum-known-decoded-2 c = search rules
 
 -- ---- a site
 
-module _ (c : tie.After-known-told2) where
-  abbrev d : tie.After-decode
-  d = c.before.before.before
+module _ (c : tie.In-Site) where
+  abbrev d : tie.After-decode-decoded
+  d = c.before
 
-  site : Site (entry d).args.file.now d.decode.last.1.0 d.decode.last.1.1.0 d.decode.last.1.1.1.0 c.before.decoded2.given.0.0 c.before.decoded2.given.0.1.0
-  site = subst (Decodes (entry d).args.file.now d.decode.last.1.0 d.decode.last.1.1.0 d.decode.last.1.1.1.0) c.before.decoded2.given.1 d.decode.ensures
+  site : Site (entry d).args.file.now d.decode-decoded.last.1.0 d.decode-decoded.last.1.1.0 d.decode-decoded.last.1.1.1.0 c.decoded-in-Site-1.given.0.0 c.decoded-in-Site-1.given.0.1.0
+  site = subst (Decodes (entry d).args.file.now d.decode-decoded.last.1.0 d.decode-decoded.last.1.1.0 d.decode-decoded.last.1.1.1.0) c.in-Site.is d.decode-decoded.ensures
 
 step1-requires : tie.Need-step1-requires
-step1-requires c κs = record { problem = _; holds = (site c.before.before.before.before).holds }
+step1-requires c κs = record { problem = _; holds = (site c.before).holds }
 
-returns-2 : tie.Need-returns-2
-returns-2 c = of_file (site c.before.before.before.before.before) _ c.step1.result c.step1.ensures
+returns-2 : tie.Need-returns-in-Site
+returns-2 c = of_file (site c.before.before) _ c.step1.result c.step1.ensures
 
-pub first-best-spec : {M : Type 1} → statement M
-first-best-spec = tie.close (tie.spec decode-requires enum-known-decoded enum-known-decoded-2 step1-requires returns returns-2)
+pub first_best_spec : {M : Type 1} → statement M
+first_best_spec =
+    tie.close
+    (tie.spec
+    decode-requires
+    enum-known-decoded
+    enum-known-decoded-2
+    step1-requires
+    returns
+    returns-2)

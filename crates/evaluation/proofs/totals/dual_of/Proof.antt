@@ -21,29 +21,39 @@ module _ (c : tie.Start) where
   dual-is : Is (to_z w64 (100000 * c.args.s.cost + c.args.m * c.args.target) -ℤ to_z w64 (c.args.m * c.args.s.net)) (100000 * c.args.s.cost + c.args.m * c.args.target + 0) (0 + c.args.m * c.args.s.net)
   dual-is = is_minus (cast _ (omega (arith, c.requires.sized.cost, demanded))) (cast _ (omega (arith, netted)))
 
-mul-result : tie.Need-overflow-mul-result
+mul-result : tie.Need-overflow_mul-result
 mul-result c = search rules
 
-mul-result-2 : tie.Need-overflow-mul-result-2
+mul-result-2 : tie.Need-overflow_mul-result-2
 mul-result-2 c = omega (arith, demanded c)
 
-add-result : tie.Need-overflow-add-result
+add-result : tie.Need-overflow_add-result
 add-result c = omega (arith, c.requires.sized.cost, demanded c)
 
-cast-result : tie.Need-overflow-cast-result
+cast-result : tie.Need-overflow_cast-result
 cast-result c = omega (arith, c.requires.sized.cost, demanded c)
 
-mul-result-3 : tie.Need-overflow-mul-result-3
+mul-result-3 : tie.Need-overflow_mul-result-3
 mul-result-3 c = omega (arith, netted c)
 
-cast-result-2 : tie.Need-overflow-cast-result-2
+cast-result-2 : tie.Need-overflow_cast-result-2
 cast-result-2 c = omega (arith, netted c)
 
-sub-result : tie.Need-overflow-sub-result
+sub-result : tie.Need-overflow_sub-result
 sub-result c = fits (dual-is c) (omega (arith, c.requires.sized.cost, demanded c)) (omega (arith, netted c))
 
 returns : tie.Need-returns
 returns c = record { is = omega (arith, kept (dual-is c) (omega (arith, c.requires.sized.cost, demanded c)) (omega (arith, netted c))) }
 
-pub dual-of-spec : {M : Type 1} → statement M
-dual-of-spec = tie.close (tie.spec mul-result mul-result-2 add-result cast-result mul-result-3 cast-result-2 sub-result returns)
+pub dual_of_spec : {M : Type 1} → statement M
+dual_of_spec =
+    tie.close
+    (tie.spec
+    mul-result
+    mul-result-2
+    add-result
+    cast-result
+    mul-result-3
+    cast-result-2
+    sub-result
+    returns)

@@ -12,39 +12,47 @@ use Rattle.evaluation.proofs.totals.floor_of.Statement.{statement}
 use Rattle.evaluation.proofs.totals.floor_of.Tie as tie
 
 -- what the test tells; and x − 1, as it is read
-below : (c : tie.Then1) → positive_part c.before.args.dual ≤ negative_part c.before.args.dual
-below c = omega (arith, when_le (back c.before.ranges.dual) (is_pos 0) c.if1.true)
+below : (c : tie.Then-dual-le0) → positive_part c.args.dual ≤ negative_part c.args.dual
+below c = omega (arith, when_le (back c.ranges.dual) (is_pos 0) c.if-dual-le0.true)
 
-above : (c : tie.Else1) → negative_part c.before.args.dual < positive_part c.before.args.dual
-above c = omega (arith, when_gt (back c.before.ranges.dual) (is_pos 0) c.if1.false)
+above : (c : tie.Else-dual-le0) → negative_part c.args.dual < positive_part c.args.dual
+above c = omega (arith, when_gt (back c.ranges.dual) (is_pos 0) c.if-dual-le0.false)
 
-less : (c : tie.Else1) → Is (to_z w64 (of_z w64 (to_z w64 (of_z w64 c.before.args.dual) -ℤ pos 1))) (positive_part c.before.args.dual + 0) (negative_part c.before.args.dual + 1)
-less c = kept (is_minus (back c.before.ranges.dual) (is_pos 1)) (omega (arith, fits-up c.before.ranges.dual)) (omega (arith, above c))
+less : (c : tie.Else-dual-le0) → Is (to_z w64 (of_z w64 (to_z w64 (of_z w64 c.args.dual) -ℤ pos 1))) (positive_part c.args.dual + 0) (negative_part c.args.dual + 1)
+less c = kept (is_minus (back c.ranges.dual) (is_pos 1)) (omega (arith, fits-up c.ranges.dual)) (omega (arith, above c))
 
-div-result : tie.Need-nonzero-div-result
-div-result c = (lit< tt, fits (is_quot (back c.before.ranges.dual) 100000) (omega (arith, fits-up c.before.ranges.dual)) (omega (arith, fits_dn c.before.ranges.dual)))
+div-result : tie.Need-nonzero_div-result
+div-result c = (lit< tt, fits (is_quot (back c.ranges.dual) 100000) (omega (arith, fits-up c.ranges.dual)) (omega (arith, fits_dn c.ranges.dual)))
 
-returns : tie.Need-returns
+returns : tie.Need-returns-then-dual-le0
 returns c =
-    let q = kept (is_quot (back c.before.ranges.dual) 100000) (omega (arith, fits-up c.before.ranges.dual)) (omega (arith, fits_dn c.before.ranges.dual)) in
-    same q (floor-is c.before.args.dual) (omega (arith, below c, one-zero c.before.args.dual))
+    let q = kept (is_quot (back c.ranges.dual) 100000) (omega (arith, fits-up c.ranges.dual)) (omega (arith, fits_dn c.ranges.dual)) in
+    same q (floor-is c.args.dual) (omega (arith, below c, one-zero c.args.dual))
 
-sub-result : tie.Need-overflow-sub-result
-sub-result c = fits (is_minus (back c.before.ranges.dual) (is_pos 1)) (omega (arith, fits-up c.before.ranges.dual)) (omega (arith, above c))
+sub-result : tie.Need-overflow_sub-result
+sub-result c = fits (is_minus (back c.ranges.dual) (is_pos 1)) (omega (arith, fits-up c.ranges.dual)) (omega (arith, above c))
 
-div-result-2 : tie.Need-nonzero-div-result-2
-div-result-2 c = (lit< tt, fits (is_quot (less c) 100000) (omega (arith, fits-up c.before.ranges.dual)) (omega (arith, above c)))
+div-result-2 : tie.Need-nonzero_div-result-2
+div-result-2 c = (lit< tt, fits (is_quot (less c) 100000) (omega (arith, fits-up c.ranges.dual)) (omega (arith, above c)))
 
-add-result : tie.Need-overflow-add-result
+add-result : tie.Need-overflow_add-result
 add-result c =
-    let q = kept (is_quot (less c) 100000) (omega (arith, fits-up c.before.ranges.dual)) (omega (arith, above c)) in
-    fits (is_add q (is_pos 1)) (omega (arith, fits-up c.before.ranges.dual)) (omega (arith, above c))
+    let q = kept (is_quot (less c) 100000) (omega (arith, fits-up c.ranges.dual)) (omega (arith, above c)) in
+    fits (is_add q (is_pos 1)) (omega (arith, fits-up c.ranges.dual)) (omega (arith, above c))
 
-returns-2 : tie.Need-returns-2
+returns-2 : tie.Need-returns
 returns-2 c =
-    let q = kept (is_quot (less c) 100000) (omega (arith, fits-up c.before.ranges.dual)) (omega (arith, above c)) in
-    let r = kept (is_add q (is_pos 1)) (omega (arith, fits-up c.before.ranges.dual)) (omega (arith, above c)) in
-    same r (floor-is c.before.args.dual) (omega (arith, above c, one-zero c.before.args.dual))
+    let q = kept (is_quot (less c) 100000) (omega (arith, fits-up c.ranges.dual)) (omega (arith, above c)) in
+    let r = kept (is_add q (is_pos 1)) (omega (arith, fits-up c.ranges.dual)) (omega (arith, above c)) in
+    same r (floor-is c.args.dual) (omega (arith, above c, one-zero c.args.dual))
 
-pub floor-of-spec : {M : Type 1} → statement M
-floor-of-spec = tie.close (tie.spec div-result returns sub-result div-result-2 add-result returns-2)
+pub floor_of_spec : {M : Type 1} → statement M
+floor_of_spec =
+    tie.close
+    (tie.spec
+    div-result
+    returns
+    sub-result
+    div-result-2
+    add-result
+    returns-2)
