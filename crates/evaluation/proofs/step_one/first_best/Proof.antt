@@ -19,7 +19,7 @@ returns : tie.Need-returns-in-Refused
 returns c =
     let d = c in
     let l = d.decode-decoded.new in
-    subst (Decodes (entry d.before).args.file.now l.1.0 l.1.1.0 l.1.1.1.0) c.in-Refused.is d.decode-decoded.ensures
+    subst (Decodes (entry d.before).args.file.now l.coefficients l.ends l.ranges) c.in-Refused.is d.decode-decoded.ensures
 
 enum-known-decoded-2 : tie.Need-enum_known-decoded-in-Site-1
 enum-known-decoded-2 c = search rules
@@ -30,8 +30,8 @@ module _ (c : tie.In-Site) where
   abbrev d : tie.After-decode-decoded
   d = c.before
 
-  site : Site (entry d).args.file.now d.decode-decoded.last.1.0 d.decode-decoded.last.1.1.0 d.decode-decoded.last.1.1.1.0 c.decoded-in-Site-1.given.0.0 c.decoded-in-Site-1.given.0.1.0
-  site = subst (Decodes (entry d).args.file.now d.decode-decoded.last.1.0 d.decode-decoded.last.1.1.0 d.decode-decoded.last.1.1.1.0) c.in-Site.is d.decode-decoded.ensures
+  site : Site (entry d).args.file.now d.decode-decoded.new.coefficients d.decode-decoded.new.ends d.decode-decoded.new.ranges c.in-Site.count c.in-Site.target
+  site = subst (Decodes (entry d).args.file.now d.decode-decoded.new.coefficients d.decode-decoded.new.ends d.decode-decoded.new.ranges) c.in-Site.is d.decode-decoded.ensures
 
 step1-requires : tie.Need-step1-requires
 step1-requires c κs = record { problem = _; holds = (site c.before).holds }
