@@ -4,14 +4,20 @@ use Rattle.bisection.proofs.AboveFloor.{distance-fits, distance_not_negative, di
 use Rattle.bisection.proofs.distance.Statement.{statement}
 use Rattle.bisection.proofs.distance.Tie as tie
 
-sub-result : tie.Need-overflow-sub-result
+sub-result : tie.Need-overflow_sub-result
 sub-result c = distance-fits c.requires c.ranges.floor
 
-cast-result-2 : tie.Need-overflow-cast-result-2
+cast-result-2 : tie.Need-overflow_cast-result-2
 cast-result-2 c = (distance_not_negative c.requires c.ranges.floor, record { fits = distance-small c.requires c.ranges.floor })
 
 returns : tie.Need-returns
 returns c = distance_is c.requires c.ranges.floor
 
-pub distance-spec : {M : Type 1} → statement M
-distance-spec = tie.close (tie.spec (λ c. search rules) sub-result cast-result-2 returns)
+pub distance_spec : {M : Type 1} → statement M
+distance_spec =
+    tie.close
+    (tie.spec
+    (λ c. search rules)
+    sub-result
+    cast-result-2
+    returns)

@@ -12,27 +12,27 @@ use Rattle.lowering.specs.Clauses.{net_lowered}
 use Rattle.lowering.proofs.lower_unit.Statement.{statement}
 use Rattle.lowering.proofs.lower_unit.Tie as tie
 
-mul-p : tie.Need-overflow-mul-p
+mul-p : tie.Need-offset_bounds-outputs-i
 mul-p c = search rules
 
-slice-read-p : tie.Need-slice-read-p
+slice-read-p : tie.Need-bounds-outputs-i
 slice-read-p c = search rules
 
-returns : tie.Need-returns
-returns c = record { lowers = λ u h l k. absurd (omega (arith, c.if1.true)); keeps = λ u h e. (refl, refl) }
+returns : tie.Need-returns-then-p-l
+returns c = record { lowers = λ u h l k. absurd (omega (arith, c.if-p-l.true)); keeps = λ u h e. (refl, refl) }
 
-net-of-requires : tie.Need-net-of-requires
+net-of-requires : tie.Need-net_of-requires
 net-of-requires c κs = search rules
 
-sub-after : tie.Need-overflow-sub-after
-sub-after c = let b = c.before.before.before.before in omega (arith, c.net-of.ensures b.requires.unit b.requires.holds, b.requires.net)
+sub-after : tie.Need-overflow_sub-after
+sub-after c = let b = c in omega (arith, c.net_of.ensures b.requires.unit b.requires.holds, b.requires.net)
 
-net-of-requires-2 : tie.Need-net-of-requires-2
+net-of-requires-2 : tie.Need-net_of-requires-2
 net-of-requires-2 c κs = search rules
 
 -- ---- the net of the whole with the unit lowered, as it is computed
 
-module _ (c : tie.After-net-of2) where
+module _ (c : tie.After-net_of-2) where
   abbrev b : tie.Start
   b = c.before.before.before.before.before
 
@@ -40,50 +40,50 @@ module _ (c : tie.After-net-of2) where
   p = get_or b.args.outputs.now b.args.i 0
 
   abbrev after : ℕ
-  after = b.args.s.net - c.before.net-of.result + c.net-of2.result
+  after = b.args.s.net - c.net_of.result + c.net_of-2.result
 
   after_is : (u : Unit) → Coefficients b.args.coefficients.now b.args.i u → after ≡ net_lowered u b.args.s.net p b.args.l
-  after_is u h = ap₂ (λ (x y : ℕ). b.args.s.net - x + y) (c.before.net-of.ensures u h) (c.net-of2.ensures u h)
+  after_is u h = ap₂ (λ (x y : ℕ). b.args.s.net - x + y) (c.net_of.ensures u h) (c.net_of-2.ensures u h)
 
-add-after : tie.Need-overflow-add-after
-add-after c = let s = (b c).requires in omega (arith, c.net-of2.ensures s.unit s.holds, net-range s.holds.sound s.least, s.sized.net)
+add-after : tie.Need-overflow_add-after
+add-after c = let s = (b c).requires in omega (arith, c.net_of-2.ensures s.unit s.holds, net-range s.holds.sound s.least, s.sized.net)
 
-returns-2 : tie.Need-returns-2
-returns-2 c = let d = c.before in record { lowers = λ u h l k. absurd (omega (arith, after_is d u h, c.if2.true)); keeps = λ u h e. (refl, refl) }
+returns-2 : tie.Need-returns-then-after-target
+returns-2 c = let d = c in record { lowers = λ u h l k. absurd (omega (arith, after_is d.before u h, c.if-after-target.true)); keeps = λ u h e. (refl, refl) }
 
-mul-outputs : tie.Need-overflow-mul-outputs
+mul-outputs : tie.Need-offset_bounds-outputs-i-2
 mul-outputs c = search rules
 
-slice-write-outputs : tie.Need-slice-write-outputs
+slice-write-outputs : tie.Need-bounds-outputs-i-2
 slice-write-outputs c = search rules
 
-cost-of-requires : tie.Need-cost-of-requires
+cost-of-requires : tie.Need-cost_of-requires
 cost-of-requires c κs = search rules
 
-sub-t15 : tie.Need-overflow-sub-t15
-sub-t15 c = let s = (b c.before.before).pre in omega (arith, c.cost-of.ensures s.unit s.holds, s.cost)
+sub-t15 : tie.Need-overflow_sub-result
+sub-t15 c = let s = (b c.before.before).requires in omega (arith, c.cost_of.ensures s.unit s.holds, s.cost)
 
-cost-of-requires-2 : tie.Need-cost-of-requires-2
+cost-of-requires-2 : tie.Need-cost_of-requires-2
 cost-of-requires-2 c κs = search rules
 
-add-t19 : tie.Need-overflow-add-t19
-add-t19 c = let s = (b c.before.before.before).pre in omega (arith, c.cost-of2.ensures s.unit s.holds, cost-range s.holds.sound s.least, s.sized.cost)
+add-t19 : tie.Need-overflow_add-result
+add-t19 c = let s = (b c.before.before.before).requires in omega (arith, c.cost_of-2.ensures s.unit s.holds, cost-range s.holds.sound s.least, s.sized.cost)
 
-same_length : tie.Need-same-length
+same_length : tie.Need-shape_of-outputs
 same_length c = search rules
 
-returns-3 : tie.Need-returns-3
+returns-3 : tie.Need-returns
 returns-3 c =
-    let e = c.before.before in
-    let d = e.before in
-    let s = (b d).args.s.cost in
+    let e = c in
+    let d = e in
+    let s = (b d.before.before.before).args.s.cost in
     record {
-      lowers = λ u h l k. (refl, after_is d u h, ap₂ (λ (x y : ℕ). s - x + y) (c.before.cost-of.ensures u h) (c.cost-of2.ensures u h));
-      keeps = λ u h. ⊎_elim (λ k. absurd (omega (arith, d.before.before.if1.false))) (λ k. absurd (omega (arith, after_is d u h, e.if2.false)));
+      lowers = λ u h l k. (refl, after_is d.before.before.before u h, ap₂ (λ (x y : ℕ). s - x + y) (c.cost_of.ensures u h) (c.cost_of-2.ensures u h));
+      keeps = λ u h. ⊎_elim (λ k. absurd (omega (arith, d.if-p-l.false))) (λ k. absurd (omega (arith, after_is d.before.before.before u h, e.if-after-target.false)));
     }
 
-pub lower-unit-spec : {M : Type 1} → statement M
-lower-unit-spec =
+pub lower_unit_spec : {M : Type 1} → statement M
+lower_unit_spec =
     tie.close
     (tie.spec
     mul-p

@@ -9,67 +9,67 @@ use Rattle.evaluation.proofs.Covering.{first_found, first-refused, multiplier-re
 use Rattle.pricing.proofs.price.Statement.{statement}
 use Rattle.pricing.proofs.price.Tie as tie
 
-returns : tie.Need-returns
-returns c = multiplier-refused c.before.before.args.file.now c.if1.true
+returns : tie.Need-returns-then-m-gt65536
+returns c = multiplier-refused c.args.file.now c.if-m-gt65536.true
 
-first-best-requires : tie.Need-first-best-requires
+first-best-requires : tie.Need-first_best-first-requires
 first-best-requires c κs = search rules
 
-enum-known-first : tie.Need-enum-known-first
+enum-known-first : tie.Need-enum_known-first
 enum-known-first c = search rules
 
-enum-known-first-2 : tie.Need-enum-known-first-2
+enum-known-first-2 : tie.Need-enum_known-first-in-Found-1
 enum-known-first-2 c = search rules
 
 -- ---- from step 1 back to the entry
 
-abbrev passed : tie.After-first-best → tie.Else1
+abbrev passed : tie.After-first_best-first → tie.Else-m-gt65536
 passed c = c.before.before.before.before.before
 
-abbrev entry : tie.After-first-best → tie.Start
+abbrev entry : tie.After-first_best-first → tie.Start
 entry c = (passed c).before.before
 
-returns-2 : tie.Need-returns-2
+returns-2 : tie.Need-returns-in-Refused
 returns-2 c =
-    let d = c.before.before.before in
-    case-refused (entry d).args.file.now (passed d).if1.false
-    (first-refused _ _ _ _ _ c.before.first.given.1 d.first-best.ensures)
+    let d = c in
+    case-refused (entry d.before).args.file.now (passed d.before).if-m-gt65536.false
+    (first-refused _ _ _ _ _ c.in-Refused.is d.first_best-first.ensures)
 
-module _ (c : tie.After-known-told2) where
-  abbrev d : tie.After-first-best
-  d = c.before.before.before
+module _ (c : tie.In-Found) where
+  abbrev d : tie.After-first_best-first
+  d = c.before
 
-  first : let l = d.first-best.last in let v = c.before.first2.given.0 in First (entry d).args.file.now l.1.0 l.1.1.0 l.1.1.1.0 l.1.1.1.1.0 v.0 v.1.0 v.1.1.0 v.1.1.1.0
-  first = first_found _ _ _ _ _ c.before.first2.given.1 d.first-best.ensures
+  first : let l = d.first_best-first.new in let v = c.first-in-Found-1.given.0 in First (entry d).args.file.now l.1.0 l.1.1.0 l.1.1.1.0 l.1.1.1.1.0 v.0 v.1.0 v.1.1.0 v.1.1.1.0
+  first = first_found _ _ _ _ _ c.in-Found.is d.first_best-first.ensures
 
-slice-aggregate-evaluate : tie.Need-slice-aggregate-evaluate
+slice-aggregate-evaluate : tie.Need-slice_bounds-evaluate-end
 slice-aggregate-evaluate c = search rules
 
-slice-aggregate-evaluate-2 : tie.Need-slice-aggregate-evaluate-2
+slice-aggregate-evaluate-2 : tie.Need-slice_bounds-evaluate-end-in-Found
 slice-aggregate-evaluate-2 c = search rules
 
-abbrev told : tie.After-least → tie.After-known-told2
+abbrev told : tie.After-least-1 → tie.In-Found
 told c = c.before.before.before.before.before
 
-evaluate-requires : tie.Need-evaluate-requires
+evaluate-requires : tie.Need-evaluate-cost-requires
 evaluate-requires c κs =
     let f = first (told c) in
-    (record { held = record { problem = _; holds = f.site.holds }; multiplier = (passed (d (told c))).if1.false }, f.site.holds.few, f.site.holds.few)
+    (record { held = record { problem = _; holds = f.site.holds }; multiplier = (passed (d (told c))).if-m-gt65536.false }, f.site.holds.few, f.site.holds.few)
 
-dual-of-requires : tie.Need-dual-of-requires
+dual-of-requires : tie.Need-dual_of-requires
 dual-of-requires c κs =
-    let e = c.before.before in
-    let b = told e.before in
-    dualable (entry (d b)).args.file.now (passed (d b)).if1.false (first b) e.evaluate.ensures.allocates
+    let e = c in
+    let b = told e.before.before.before in
+    dualable (entry (d b)).args.file.now (passed (d b)).if-m-gt65536.false (first b) e.evaluate-cost.ensures.allocates
 
-returns-3 : tie.Need-returns-3
+returns-3 : tie.Need-returns-in-Found
 returns-3 c =
-    let e = c.before.before.before in
-    let b = told e.before in
-    valued (entry (d b)).args.file.now (passed (d b)).if1.false (first b) e.evaluate.ensures.allocates (is_same (to_z-of_z {w = w64} (search rules)) c.dual-of.ensures)
+    let e = c in
+    let b = told e.before.before.before.before in
+    valued (entry (d b)).args.file.now (passed (d b)).if-m-gt65536.false (first b) e.evaluate-cost.ensures.allocates (is_same (to_z-of_z {w = w64} (search rules)) c.dual_of.ensures)
 
-pub price-spec : {M : Type 1} → statement M
-price-spec =
+pub price_spec : {M : Type 1} → statement M
+price_spec =
     tie.close
     (tie.spec
     returns

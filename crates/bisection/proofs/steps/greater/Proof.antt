@@ -7,17 +7,21 @@ use mir.Facts.{to_z-of_z}
 use Rattle.bisection.proofs.steps.greater.Statement.{statement}
 use Rattle.bisection.proofs.steps.greater.Tie as tie
 
-returns : tie.Need-returns
+returns : tie.Need-returns-then-a-b
 returns c =
-    let s = c.before in
-    let e : le_z s.args.a s.args.b ≡ true = rw (to_z-of_z {w = w64} s.ranges.a, to_z-of_z {w = w64} s.ranges.b) at c.if1.true in
+    let s = c in
+    let e : le_z s.args.a s.args.b ≡ true = rw (to_z-of_z {w = w64} s.ranges.a, to_z-of_z {w = w64} s.ranges.b) at c.if-a-b.true in
     rw (e, to_z-of_z {w = w64} s.ranges.b)
 
-returns-2 : tie.Need-returns-2
+returns-2 : tie.Need-returns-else-a-b
 returns-2 c =
-    let s = c.before in
-    let e : le_z s.args.a s.args.b ≡ false = rw (to_z-of_z {w = w64} s.ranges.a, to_z-of_z {w = w64} s.ranges.b) at c.if1.false in
+    let s = c in
+    let e : le_z s.args.a s.args.b ≡ false = rw (to_z-of_z {w = w64} s.ranges.a, to_z-of_z {w = w64} s.ranges.b) at c.if-a-b.false in
     rw (e, to_z-of_z {w = w64} s.ranges.a)
 
-pub greater-spec : {M : Type 1} → statement M
-greater-spec = tie.close (tie.spec returns returns-2)
+pub greater_spec : {M : Type 1} → statement M
+greater_spec =
+    tie.close
+    (tie.spec
+    returns
+    returns-2)
