@@ -53,7 +53,10 @@ going_on : (c : tie.Else-evaluations-most invariant-loop decreases-loop) → let
 going_on c = opened (at-loop c).loop-width.invariant.2 c.if-width-eq0.false
 
 add-m : tie.Need-overflow_add-m invariant-loop decreases-loop
-add-m c = omega (arith, (going_on c).within)
+add-m c =
+    let l = c.loop-width in
+    let going : Open l.invariant.2.stage l.low l.width l.evaluations = opened l.invariant.2 c.if-width-eq0.false in
+    omega (arith, going.within)
 
 slice-aggregate-evaluate : tie.Need-slice_bounds-evaluate-end invariant-loop decreases-loop
 slice-aggregate-evaluate c = (at-loop c.before).loop-width.invariant.0
@@ -102,25 +105,25 @@ least_kept : (c : tie.After-greater-floor invariant-loop decreases-loop) → 32 
 least_kept c = omega (arith, (dual c).least-in-loop-width-1.given, (at-loop (turn c)).loop-width.invariant.1)
 
 -- the trace, as it is written
-trace-is : (c : tie.After-greater-floor invariant-loop decreases-loop) → let l = (at-loop (turn c)).loop-width in c.note.new.trace ≡ recorded l.trace-1 l.evaluations ((l.low + l.width) % 131072) (dual c).dual_of-dual.result
+trace-is : (c : tie.After-greater-floor invariant-loop decreases-loop) → let l = (at-loop (turn c)).loop-width in c.note.new.trace ≡ recorded l.trace l.evaluations ((l.low + l.width) % 131072) (dual c).dual_of-dual.result
 trace-is c =
     let l = (at-loop (turn c)).loop-width in
-    c.note.ensures ∙ ap (λ (z : ℤ). recorded l.trace-1 l.evaluations ((l.low + l.width) % 131072) z) (to_z-of_z {w = w64} (search rules))
+    c.note.ensures ∙ ap (λ (z : ℤ). recorded l.trace l.evaluations ((l.low + l.width) % 131072) z) (to_z-of_z {w = w64} (search rules))
 
 trace-kept : (c : tie.After-greater-floor invariant-loop decreases-loop) → length c.note.new.trace ≡ length (entry (at-loop (turn c))).args.trace.now
 trace-kept c =
     let l = (at-loop (turn c)).loop-width in
-    ap length (trace-is c) ∙ recorded-length l.trace-1 l.evaluations ((l.low + l.width) % 131072) (dual c).dual_of-dual.result ∙ l.invariant.3
+    ap length (trace-is c) ∙ recorded-length l.trace l.evaluations ((l.low + l.width) % 131072) (dual c).dual_of-dual.result ∙ l.invariant.3
 
 add-evaluations : tie.Need-overflow_add-evaluations invariant-loop decreases-loop
 add-evaluations c = omega (arith, (going_on (turn c)).few)
 
 -- the floor, as it is read back
-floor-is : (c : tie.After-greater-floor invariant-loop decreases-loop) → let d = (dual c).dual_of-dual.result in let z = to_z w64 (at-loop (turn c)).loop-width.floor in to_z w64 (of_z w64 c.greater-floor.result) ≡ cond (le_z (divided_up d 100000) z) z (divided_up d 100000)
+floor-is : (c : tie.After-greater-floor invariant-loop decreases-loop) → let d = (dual c).dual_of-dual.result in let z = to_z w64 (at-loop (turn c)).loop-width.floor-bits in to_z w64 (of_z w64 c.greater-floor.result) ≡ cond (le_z (divided_up d 100000) z) z (divided_up d 100000)
 floor-is c =
     let f = c.floor_of in
     let e = (dual c).dual_of-dual in
-    let z = to_z w64 (at-loop (turn c)).loop-width.floor in
+    let z = to_z w64 (at-loop (turn c)).loop-width.floor-bits in
     let kept : to_z w64 (of_z w64 e.result) ≡ e.result = to_z-of_z {w = w64} (search rules) in
     let read : to_z w64 (of_z w64 f.result) ≡ divided_up e.result 100000 = to_z-of_z {w = w64} (search rules) ∙ f.ensures ∙ ap (λ (x : ℤ). divided_up x 100000) kept in
     to_z-of_z {w = w64} (search rules) ∙ c.greater-floor.ensures ∙ ap (λ (x : ℤ). cond (le_z x z) z x) read
