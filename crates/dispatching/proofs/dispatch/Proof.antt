@@ -9,60 +9,60 @@ use Rattle.dispatching.proofs.Endings.{promised, short, refused, replied}
 use Rattle.dispatching.proofs.dispatch.Statement.{statement}
 use Rattle.dispatching.proofs.dispatch.Tie as tie
 
-returns : tie.Need-returns
-returns c = promised _ _ (short _ _ c.if1.true)
+returns : tie.Need-returns-then-reply-lt92
+returns c = promised _ _ (short _ _ c.if-reply-lt92.true)
 
-first-best-requires : tie.Need-first-best-requires
+first-best-requires : tie.Need-first_best-first-requires
 first-best-requires c κs = search rules
 
-enum-known-first : tie.Need-enum-known-first
+enum-known-first : tie.Need-enum_known-first
 enum-known-first c = search rules
 
-enum-known-first-2 : tie.Need-enum-known-first-2
+enum-known-first-2 : tie.Need-enum_known-first-in-Found-1
 enum-known-first-2 c = search rules
 
 -- ---- from step 1 back to the entry
 
-abbrev passed : tie.After-first-best → tie.Else1
+abbrev passed : tie.After-first_best-first → tie.Else-reply-lt92
 passed c = c.before.before.before.before.before
 
-abbrev entry : tie.After-first-best → tie.Start
+abbrev entry : tie.After-first_best-first → tie.Start
 entry c = (passed c).before.before.before
 
-returns-2 : tie.Need-returns-2
+returns-2 : tie.Need-returns-in-Refused
 returns-2 c =
-    let d = c.before.before.before in
+    let d = c in
     promised _ _
-    (refused _ _ (passed d).if1.false _
-    (first-refused _ _ _ _ _ c.before.first.given.1 d.first-best.ensures))
+    (refused _ _ (passed d.before).if-reply-lt92.false _
+    (first-refused _ _ _ _ _ c.in-Refused.is d.first_best-first.ensures))
 
-module _ (c : tie.After-known-told2) where
-  abbrev d : tie.After-first-best
-  d = c.before.before.before
+module _ (c : tie.In-Found) where
+  abbrev d : tie.After-first_best-first
+  d = c.before
 
-  first : let l = d.first-best.last in let v = c.before.first2.given.0 in First (entry d).args.file.now l.1.0 l.1.1.0 l.1.1.1.0 l.1.1.1.1.0 v.0 v.1.0 v.1.1.0 v.1.1.1.0
-  first = first_found _ _ _ _ _ c.before.first2.given.1 d.first-best.ensures
+  first : let l = d.first_best-first.new in let v = c.in-Found in First (entry d).args.file.now l.coefficients l.ends l.ranges l.outputs v.count v.target v.cost v.net
+  first = first_found _ _ _ _ _ c.in-Found.is d.first_best-first.ensures
 
-abbrev told : tie.After-solve → tie.After-known-told2
+abbrev told : tie.After-solve → tie.In-Found
 told c = c.before.before.before.before.before
 
 solve-requires : tie.Need-solve-requires
 solve-requires c κs = solving (first c.before.before.before.before)
 
-write-reply-requires : tie.Need-write-reply-requires
-write-reply-requires c κs = let t = told c in ((first t).site.holds.few, omega (arith, (passed (d t)).if1.false))
+write-reply-requires : tie.Need-write_reply-requires
+write-reply-requires c κs = let t = told c in ((first t).site.holds.few, omega (arith, (passed (d t)).if-reply-lt92.false))
 
-same_length : tie.Need-same-length
+same_length : tie.Need-shape_of-reply
 same_length c = search rules
 
-returns-3 : tie.Need-returns-3
+returns-3 : tie.Need-returns-in-Found
 returns-3 c =
-    let w = c.before.before in
-    let t = told w.before in
-    promised _ _ (replied _ _ (passed (d t)).if1.false (first t) w.before.solve.ensures w.write-reply.ensures.0 w.write-reply.ensures.1)
+    let w = c in
+    let t = told w.before.before.before in
+    promised _ _ (replied _ _ (passed (d t)).if-reply-lt92.false (first t) w.solve.ensures w.write_reply.ensures.0 w.write_reply.ensures.1)
 
-pub dispatch-spec : {M : Type 1} → statement M
-dispatch-spec =
+pub dispatch_spec : {M : Type 1} → statement M
+dispatch_spec =
     tie.close
     (tie.spec
     returns

@@ -4,17 +4,23 @@ use Rattle.solving.proofs.Solved.{stateable, solved}
 use Rattle.solving.proofs.solve.Statement.{statement}
 use Rattle.solving.proofs.solve.Tie as tie
 
-slice-aggregate-search : tie.Need-slice-aggregate-search
+slice-aggregate-search : tie.Need-slice_bounds-search-end
 slice-aggregate-search c = search rules
 
 search-requires : tie.Need-search-requires
 search-requires c κs = search rules
 
 stated-requires : tie.Need-stated-requires
-stated-requires c κs = stateable c.before.before.before.requires c.before.search.ensures
+stated-requires c κs = stateable c.requires c.search.ensures
 
 returns : tie.Need-returns
-returns c = solved c.stated.ensures c.before.before.search.ensures
+returns c = solved c.stated.ensures c.search.ensures
 
-pub solve-spec : {M : Type 1} → statement M
-solve-spec = tie.close (tie.spec slice-aggregate-search search-requires stated-requires returns)
+pub solve_spec : {M : Type 1} → statement M
+solve_spec =
+    tie.close
+    (tie.spec
+    slice-aggregate-search
+    search-requires
+    stated-requires
+    returns)

@@ -15,12 +15,17 @@ floor-fits : (c : tie.Start) → SFits w64 c.args.f.floor
 floor-fits c = search rules
 
 distance-requires : tie.Need-distance-requires
-distance-requires c κs = let s = c.before.before.before in rw (to_z-of_z {w = w64} (floor-fits s)) s.requires.measurable
+distance-requires c κs = let s = c in rw (to_z-of_z {w = w64} (floor-fits s.before.before.before)) s.requires.measurable
 
 returns : tie.Need-returns
 returns c =
-    let s = c.before.before.before.before in
-    states s.args.target s.args.f (c.distance.ensures ∙ ap (λ (z : ℤ). natural (pos s.args.f.best.cost -ℤ z)) (to_z-of_z {w = w64} (floor-fits s)))
+    let s = c in
+    states s.args.target s.args.f (c.distance.ensures ∙ ap (λ (z : ℤ). natural (pos s.args.f.best.cost -ℤ z)) (to_z-of_z {w = w64} (floor-fits s.before.before.before.before)))
 
-pub stated-spec : {M : Type 1} → statement M
-stated-spec = tie.close (tie.spec distance-requires (λ c. search rules) returns)
+pub stated_spec : {M : Type 1} → statement M
+stated_spec =
+    tie.close
+    (tie.spec
+    distance-requires
+    (λ c. search rules)
+    returns)
