@@ -10,7 +10,7 @@ use lib.ListN.{length, take, drop, take-append-drop, length-drop}
 use lib.Pow.{pow-add}
 use borrow.Author.Tests.{eq-eqb, ne_eqb, eqb-true, eqb-false}
 use Rattle.gencost.specs.declared.Class.{Class}
-use Rattle.gencost.specs.Row.{number_after, Decimal, whole}
+use Rattle.gencost.specs.Row.{number_after, Decimal}
 use Rattle.gencost.specs.Clauses.{Digits, held, run, class_end, valued}
 use Rattle.gencost.proofs.Numbers.{after_append, after_shift, after_grows, below_power, zeros-spell, held-through}
 

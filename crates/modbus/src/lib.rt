@@ -87,7 +87,7 @@ fn write_values(
     answer[0] = function;
     answer[1] = count as u8;
     let from = 2 * start;
-    bytes::copy(&reply[from..from + count], &mut answer[2..]);
+    answer[2..2 + count].copy_from_slice(&reply[from..from + count]);
     2 + count
 }
 
@@ -111,7 +111,7 @@ fn write_answer(
 
 // Answers `request` from `reply` at the start of `answer`.
 pub fn view(reply: &[u8], request: &[u8], answer: &mut [u8]) -> Viewed
-    ensures { viewed reply.now request.now answer.entry.now ≡ record { answer = result; bytes = answer.exit.now } }
+    ensures { viewed reply.now request.now answer.old ≡ record { answer = result; bytes = answer.new } }
 {
     if reply_malformed(reply) {
         return Viewed::Refused(Refusal::ReplyMalformed);

@@ -4,7 +4,6 @@ use mathlib.Core.Path.{sym, ◌∙◌}
 use native.Mathlib.Omega.{arith}
 use lib.ListN.{length}
 use borrow.Author.Rules.{rules}
-use borrow.Author.Tests.{not-true, not-false}
 use Rattle.gencost.specs.Clauses.{passes}
 use Rattle.gencost.proofs.Runs.{Running, running-starts, running-ends, running_fails, running_more}
 use Rattle.gencost.proofs.class_end.Statement.{statement}
@@ -20,10 +19,10 @@ loop-holds : tie.Need-loop-i-init invariant-loop decreases-loop
 loop-holds c = running-starts _ _ _ c.requires
 
 returns : tie.Need-returns-then-not-is_of invariant-loop decreases-loop
-returns c = running_fails _ _ _ c.loop-i.invariant (omega arith) (sym c.is_of.ensures ∙ not-true _ c.if-not-is_of.true)
+returns c = running_fails _ _ _ c.loop-i.invariant (omega arith) (sym c.is_of.ensures ∙ c.if-not-is_of.true)
 
 loop-again : tie.Need-loop-i-preserved invariant-loop decreases-loop
-loop-again c = running_more _ _ _ c.loop-i.invariant (omega arith) (sym c.is_of.ensures ∙ not-false _ c.if-not-is_of.false)
+loop-again c = running_more _ _ _ c.loop-i.invariant (omega arith) (sym c.is_of.ensures ∙ c.if-not-is_of.false)
 
 returns-2 : tie.Need-returns invariant-loop decreases-loop
 returns-2 c = running-ends _ _ _ c.loop-i.invariant (omega arith)

@@ -6,16 +6,16 @@ use Rattle.gencost.proofs.is_of.Statement.{statement}
 use Rattle.gencost.proofs.is_of.Tie as tie
 
 returns : tie.Need-returns-in-Blank
-returns c = rw c.enum_told-1.given.1 c.is_blank.ensures
+returns c = rw c.in-Blank.is c.is_blank.ensures
 
 returns-2 : tie.Need-returns-in-Other
-returns-2 c = rw c.enum_told-in-Other-1.given.1 (ap not c.is_blank-in-Other.ensures)
+returns-2 c = rw c.in-Other.is (ap not c.is_blank-in-Other.ensures)
 
 returns-3 : tie.Need-returns-in-Digit
-returns-3 c = rw c.enum_told-in-Digit-1.given.1 c.is_digit.ensures
+returns-3 c = rw c.in-Digit.is c.is_digit.ensures
 
 returns-4 : tie.Need-returns-in-Zero
-returns-4 c = rw c.enum_told-in-Zero-1.given.1
+returns-4 c = rw c.in-Zero.is
 
 pub is_of_spec : {M : Type 1} → statement M
 is_of_spec =

@@ -13,17 +13,17 @@ returns : tie.Need-returns-in_default
 returns c =
     let r = c in
     let e = r in
-    let s = entry e.before.before.before.before in
+    let s = entry e.before.before.before in
     let a = s.args in
-    (number-none a.row.now a.at s.requires.0 e.class_end-from.ensures.0 e.class_end-end.ensures.0 a.places a.limit (sym r.scan.ensures ∙ c.enum_told-1.given.1), end-within a.row.now a.at s.requires.0)
+    (number-none a.row.now a.at s.requires.0 e.class_end-from.ensures.0 e.class_end-end.ensures.0 a.places a.limit (sym r.scan.ensures ∙ c.in_default.is), end-within a.row.now a.at s.requires.0)
 
 returns-2 : tie.Need-returns
 returns-2 c =
     let r = c in
     let e = r in
-    let s = entry e.before.before.before.before.before in
+    let s = entry e.before.before.before in
     let a = s.args in
-    (number-some a.row.now a.at s.requires.0 e.class_end-from.ensures.0 e.class_end-end.ensures.0 a.places a.limit (sym r.scan.ensures ∙ c.number-1.given.1), end-within a.row.now a.at s.requires.0)
+    (number-some a.row.now a.at s.requires.0 e.class_end-from.ensures.0 e.class_end-end.ensures.0 a.places a.limit (sym r.scan.ensures ∙ c.in-Decimal.is), end-within a.row.now a.at s.requires.0)
 
 pub next_number_spec : {M : Type 1} → statement M
 next_number_spec =

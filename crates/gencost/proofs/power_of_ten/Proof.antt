@@ -20,8 +20,8 @@ right k x = eqb x (10 ^ k)
 mul-result : tie.Need-offset_bounds-k
 mul-result c = search rules
 
-array-read-result : tie.Need-array-read-result
-array-read-result c = search rules
+bounds-k : tie.Need-bounds-k
+bounds-k c = search rules
 
 returns : tie.Need-returns
 returns c = let k = c.args.k in eqb-true (get_or powers k 0) (10 ^ k) (entry right powers refl k (search rules))
@@ -31,5 +31,5 @@ power_of_ten_spec =
     tie.close
     (tie.spec
     mul-result
-    array-read-result
+    bounds-k
     returns)

@@ -23,20 +23,20 @@ head c = c.head_end-head.ensures.1 c.if-head-eq0.false
 
 -- what each coefficient's word is
 
-square : (c : tie.In-Number) → let g = c.square-1.given.0 in Took (row c.before.before.before.before.before) 4 4 1000 g.0 g.1.0
-square c = let r = c in took _ (head r.before.before.before.before).1 4 1000 (sym r.next_number.ensures.0 ∙ c.square-1.given.1)
+square : (c : tie.In-Number) → Took (row c.before.before.before) 4 4 1000 c.in-Number.square c.in-Number.square_end
+square c = let r = c in took _ (head r.before.before).1 4 1000 (sym r.next_number.ensures.0 ∙ c.in-Number.is)
 
 abbrev first : tie.In-Number-next_number → tie.In-Number
-first c = c.before.before.before.before
+first c = c.before.before
 
-linear : (c : tie.In-Number-next_number) → let g = c.linear-1.given.0 in Took (row (first c).before.before.before.before.before) 5 5 10000000 g.0 g.1.0
-linear c = let r = c in took _ (square r.before.before.before.before).behind 5 10000000 (sym r.next_number-2.ensures.0 ∙ c.linear-1.given.1)
+linear : (c : tie.In-Number-next_number) → Took (row (first c).before.before.before) 5 5 10000000 c.in-Number-next_number.linear c.in-Number-next_number.linear_end
+linear c = let r = c in took _ (square r.before.before).behind 5 10000000 (sym r.next_number-2.ensures.0 ∙ c.in-Number-next_number.is)
 
 abbrev second : tie.In-Number-next_number-2 → tie.In-Number-next_number
-second c = c.before.before.before.before
+second c = c.before.before
 
-constant : (c : tie.In-Number-next_number-2) → let g = c.constant-1.given.0 in Took (row (first (second c)).before.before.before.before.before) 6 6 1000000000 g.0 g.1.0
-constant c = let r = c in took _ (linear r.before.before.before.before).behind 6 1000000000 (sym r.next_number-3.ensures.0 ∙ c.constant-1.given.1)
+constant : (c : tie.In-Number-next_number-2) → Took (row (first (second c)).before.before.before) 6 6 1000000000 c.in-Number-next_number-2.constant c.in-Number-next_number-2.end
+constant c = let r = c in took _ (linear r.before.before).behind 6 1000000000 (sym r.next_number-3.ensures.0 ∙ c.in-Number-next_number-2.is)
 
 returns : tie.Need-returns-then-row-gt256
 returns c = refused _ (too_long _ c.if-row-gt256.true)
@@ -56,8 +56,8 @@ next-number-requires c κs = ((head c).1.within, search rules)
 returns-5 : tie.Need-returns-in_default
 returns-5 c =
     let r = c in
-    let h = head r.before.before.before in
-    refused _ (other_word _ (rw (h.0, took-none _ h.1 4 1000 (sym r.next_number.ensures.0 ∙ c.enum_told-1.given.1))))
+    let h = head r.before.before in
+    refused _ (other_word _ (rw (h.0, took-none _ h.1 4 1000 (sym r.next_number.ensures.0 ∙ c.in_default.is))))
 
 next-number-requires-2 : tie.Need-next_number-requires-2
 next-number-requires-2 c κs = ((square c).behind.within, search rules)
@@ -65,8 +65,8 @@ next-number-requires-2 c κs = ((square c).behind.within, search rules)
 returns-6 : tie.Need-returns-in_default-next_number
 returns-6 c =
     let r = c in
-    let s = square r.before.before.before in
-    refused _ (other_word _ (rw ((head r.before.before.before.before.before.before.before).0, s.formed, took-none _ s.behind 5 10000000 (sym r.next_number-2.ensures.0 ∙ c.enum_told-in_default-next_number-1.given.1))))
+    let s = square r.before.before in
+    refused _ (other_word _ (rw ((head r.before.before.before.before).0, s.formed, took-none _ s.behind 5 10000000 (sym r.next_number-2.ensures.0 ∙ c.in_default-next_number.is))))
 
 next-number-requires-3 : tie.Need-next_number-requires-3
 next-number-requires-3 c κs = ((linear c).behind.within, search rules)
@@ -74,9 +74,9 @@ next-number-requires-3 c κs = ((linear c).behind.within, search rules)
 returns-7 : tie.Need-returns-in_default-next_number-2
 returns-7 c =
     let r = c in
-    let l = linear r.before.before.before in
-    let k = first r.before.before.before in
-    refused _ (other_word _ (rw ((head k.before.before.before.before).0, (square k).formed, l.formed, took-none _ l.behind 6 1000000000 (sym r.next_number-3.ensures.0 ∙ c.enum_told-in_default-next_number-2-1.given.1))))
+    let l = linear r.before.before in
+    let k = first r.before.before in
+    refused _ (other_word _ (rw ((head k.before.before).0, (square k).formed, l.formed, took-none _ l.behind 6 1000000000 (sym r.next_number-3.ensures.0 ∙ c.in_default-next_number-2.is))))
 
 returns-8 : tie.Need-returns-then-end-row
 returns-8 c = refused _ (not-ended _ (constant c.before).behind c.if-end-row.true)
@@ -89,8 +89,8 @@ returns-9 c =
     let e = (first (second k.before.before)) in
     let b = e in
     let whole-form =
-    formed (row e.before.before.before.before.before) b.if-row-gt256.left (omega arith) (sym b.is_blank.ensures ∙ b.if-is_blank.left) (head e.before.before.before.before).0 s.formed l.formed (constant k.before.before).formed (constant k.before.before).behind c.if-end-row.false (constant k.before.before).solid in
-    read-judged (row e.before.before.before.before.before) whole-form s.value l.value (constant k.before.before).value c.judged.ensures
+    formed (row e.before.before.before) b.if-row-gt256.false (omega arith) (sym b.is_blank.ensures ∙ b.if-is_blank.false) (head e.before.before).0 s.formed l.formed (constant k.before.before).formed (constant k.before.before).behind c.if-end-row.false (constant k.before.before).solid in
+    read-judged (row e.before.before.before) whole-form s.value l.value (constant k.before.before).value c.judged.ensures
 
 pub read_spec : {M : Type 1} → statement M
 read_spec =

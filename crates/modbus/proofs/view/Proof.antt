@@ -1,7 +1,6 @@
 -- `modbus::view` meets its contract: the three refusals in their order, then the answer (`Answers`).
 use mathlib.Core.Path.{◌≡◌, sym, ◌∙◌}
 use mathlib.Core.Bool.{false}
-use native.Mathlib.Omega.{arith}
 use borrow.Author.Rules.{rules}
 use Rattle.modbus.specs.View.{malformed}
 use Rattle.modbus.proofs.Answers.{reply-refused, request_refused, answer-refused, answered}
@@ -9,54 +8,54 @@ use Rattle.modbus.proofs.view.Statement.{statement}
 use Rattle.modbus.proofs.view.Tie as tie
 
 -- behind the first check the reply has the right form
-of-form : (c : tie.Else1) → malformed c.before.before.before.before.before.args.reply.now ≡ false
-of-form c = sym c.before.reply-malformed.ensures ∙ c.if1.false
+of-form : (c : tie.Else-reply_malformed) → malformed c.args.reply.now ≡ false
+of-form c = sym c.reply_malformed.ensures ∙ c.if-reply_malformed.false
 
-reply-malformed-requires : tie.Need-reply-malformed-requires
+reply-malformed-requires : tie.Need-reply_malformed-requires
 reply-malformed-requires c κs = search rules
 
-returns : tie.Need-returns
-returns c = reply-refused _ _ _ (sym c.before.reply-malformed.ensures ∙ c.if1.true)
+returns : tie.Need-returns-then-reply_malformed
+returns c = reply-refused _ _ _ (sym c.reply_malformed.ensures ∙ c.if-reply_malformed.true)
 
-returns-2 : tie.Need-returns-2
-returns-2 c = request_refused _ _ _ (of-form c.before) c.if2.true
+returns-2 : tie.Need-returns-then-request-ne5
+returns-2 c = request_refused _ _ _ (of-form c.before) c.if-request-ne5.true
 
-returns-3 : tie.Need-returns-3
-returns-3 c = answer-refused _ _ _ (of-form c.before.before) c.before.if2.false c.if3.true
+returns-3 : tie.Need-returns-then-answer-lt252
+returns-3 c = answer-refused _ _ _ (of-form c.before.before) c.if-request-ne5.false c.if-answer-lt252.true
 
-read-u16-requires : tie.Need-read-u16-requires
+read-u16-requires : tie.Need-read_u16-start-requires
 read-u16-requires c κs = search rules
 
-cast-start : tie.Need-overflow-cast-start
+cast-start : tie.Need-overflow_cast-start
 cast-start c = search rules
 
-read-u16-requires-2 : tie.Need-read-u16-requires-2
+read-u16-requires-2 : tie.Need-read_u16-quantity-requires
 read-u16-requires-2 c κs = search rules
 
-cast-quantity : tie.Need-overflow-cast-quantity
+cast-quantity : tie.Need-overflow_cast-quantity
 cast-quantity c = search rules
 
-shared-slice-read-write-answer : tie.Need-shared-slice-read-write-answer
+shared-slice-read-write-answer : tie.Need-bounds-request-0
 shared-slice-read-write-answer c = search rules
 
-write-answer-requires : tie.Need-write-answer-requires
+write-answer-requires : tie.Need-write_answer-requires
 write-answer-requires c κs =
-    let e = c.before.before.before.before in
-    (of-form e.before.before, search rules, search rules, e.if3.false)
+    let e = c in
+    (of-form e.before.before.before.before.before.before, search rules, search rules, e.if-answer-lt252.false)
 
-same_length : tie.Need-same-length
+same_length : tie.Need-shape_of-answer
 same_length c = search rules
 
-returns-4 : tie.Need-returns-4
+returns-4 : tie.Need-returns
 returns-4 c =
-    let w = c.before.before in
-    let second = w.before.before.before in
-    let first = second.before in
-    let e = first.before in
-    answered _ _ _ (of-form e.before.before) e.before.if2.false e.if3.false first.read-u16.ensures second.read-u162.ensures w.write-answer.ensures
+    let w = c in
+    let second = w in
+    let first = second in
+    let e = first in
+    answered _ _ _ (of-form e.before.before.before.before.before.before.before.before.before) e.if-request-ne5.false e.if-answer-lt252.false first.read_u16-start.ensures second.read_u16-quantity.ensures w.write_answer.ensures
 
-pub view-spec : {M : Type 1} → statement M
-view-spec =
+pub view_spec : {M : Type 1} → statement M
+view_spec =
     tie.close
     (tie.spec
     reply-malformed-requires

@@ -9,25 +9,30 @@ use Rattle.rules.proofs.Encoding.Front.{front-none, front-set, front-over}
 use Rattle.modbus.proofs.write_exception.Statement.{statement}
 use Rattle.modbus.proofs.write_exception.Tie as tie
 
-with-top-bit-requires : tie.Need-with-top-bit-requires
+with-top-bit-requires : tie.Need-with_top_bit-requires
 with-top-bit-requires c κs = search rules
 
-slice-write-answer : tie.Need-slice-write-answer
+slice-write-answer : tie.Need-bounds-answer-0
 slice-write-answer c = search rules
 
-slice-write-answer-2 : tie.Need-slice-write-answer-2
+slice-write-answer-2 : tie.Need-bounds-answer-1
 slice-write-answer-2 c = search rules
 
-same_length : tie.Need-same-length
+same_length : tie.Need-shape_of-answer
 same_length c = search rules
 
 returns : tie.Need-returns
 returns c =
-    let a = c.before.before.args in
+    let a = c.args in
     let s = a.answer.now in
-    (refl, front-over (front-set (front-set (front-none s) c.with-top-bit.result (omega (arith, c.before.before.requires))) a.code (omega (arith, c.before.before.requires))) ∙ ap (λ (v : ℕ). over (v ∷ a.code ∷ []) s) c.with-top-bit.ensures)
+    (refl, front-over (front-set (front-set (front-none s) c.with_top_bit.result (omega (arith, c.requires))) a.code (omega (arith, c.requires))) ∙ ap (λ (v : ℕ). over (v ∷ a.code ∷ []) s) c.with_top_bit.ensures)
 
-pub write-exception-spec : {M : Type 1} → statement M
-write-exception-spec =
+pub write_exception_spec : {M : Type 1} → statement M
+write_exception_spec =
     tie.close
-    (tie.spec with-top-bit-requires slice-write-answer slice-write-answer-2 same_length returns)
+    (tie.spec
+    with-top-bit-requires
+    slice-write-answer
+    slice-write-answer-2
+    same_length
+    returns)

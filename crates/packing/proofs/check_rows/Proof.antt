@@ -31,7 +31,7 @@ returns : tie.Need-returns-in-Refused invariant-loop decreases-loop
 returns c =
     let l = c.loop-i in
     let a = c.args in
-    let told = c.enum_told-1.given.1 in
+    let told = c.in-Refused.is in
     let checked = sym (ap unit_verdict c.read_row.ensures) ∙ sym c.check_unit-verdict.ensures ∙ told in
     told ∙ sym (checked_refused a.n (λ i. unit_verdict (unit_in_row a.rows.now a.b1.now i)) l.i l.invariant (omega arith) checked)
 
@@ -48,7 +48,7 @@ loop-again : tie.Need-loop-i-preserved invariant-loop decreases-loop
 loop-again c =
     let l = c.loop-i in
     let a = c.args in
-    checked-more a.n (λ i. unit_verdict (unit_in_row a.rows.now a.b1.now i)) l.i l.invariant (omega arith) (sym (ap unit_verdict c.read_row.ensures) ∙ sym c.check_unit-verdict.ensures ∙ c.enum_told-in_default-1.given.1)
+    checked-more a.n (λ i. unit_verdict (unit_in_row a.rows.now a.b1.now i)) l.i l.invariant (omega arith) (sym (ap unit_verdict c.read_row.ensures) ∙ sym c.check_unit-verdict.ensures ∙ c.in_default.is)
 
 returns-2 : tie.Need-returns invariant-loop decreases-loop
 returns-2 c =

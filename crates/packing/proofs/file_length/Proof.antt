@@ -5,7 +5,7 @@ use mathlib.Core.Path.{◌≡◌, ap, ◌∙◌}
 use lib.ListN.{length}
 use Rattle.rules.specs.Unit.{Unit}
 use Rattle.rules.specs.Layout.{unit_in_row}
-use Rattle.packing.proofs.Lengths.{size_of, few-zones, total, total-more}
+use Rattle.packing.proofs.Lengths.{few-zones, total, total-more}
 use Rattle.packing.proofs.file_length.Statement.{statement}
 use Rattle.packing.proofs.file_length.Tie as tie
 

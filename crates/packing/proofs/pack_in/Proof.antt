@@ -21,7 +21,7 @@ some : (c : tie.Else-rows_invalid) → rows_invalid c.args.edition (length c.arg
 some c = sym c.rows_invalid.ensures ∙ c.if-rows_invalid.false
 
 accepted : (c : tie.In_default) → row_verdicts c.args.rows.now c.args.b1.now (row_count c.args.rows.now) ≡ Accepted
-accepted c = sym c.check_rows-verdict.ensures ∙ c.enum_told-1.given.1
+accepted c = sym c.check_rows-verdict.ensures ∙ c.in_default.is
 
 returns-2 : tie.Need-returns-then-demand-gt320000
 returns-2 c = let a = c.args in packed-demand a.edition a.demand a.rows.now a.b1.now a.file.now (some c.before) (omega arith)
@@ -33,16 +33,16 @@ enum-known-verdict : tie.Need-enum_known-verdict
 enum-known-verdict c = search rules
 
 returns-3 : tie.Need-returns-in-Refused
-returns-3 c = let a = c.args in packed-row a.edition a.demand a.rows.now a.b1.now a.file.now (some c.before.before.before.before.before) (omega arith) (sym c.check_rows-verdict.ensures ∙ c.verdict-1.given.1)
+returns-3 c = let a = c.args in packed-row a.edition a.demand a.rows.now a.b1.now a.file.now (some c.before.before.before) (omega arith) (sym c.check_rows-verdict.ensures ∙ c.in-Refused.is)
 
 enum_told : tie.Need-enum_told-1
 enum_told c = search rules
 
 file-length-requires : tie.Need-file_length-length-requires
-file-length-requires c κs = let a = c.args in rows-sound a.edition a.rows.now a.b1.now (some c.before.before.before.before) (accepted c)
+file-length-requires c κs = let a = c.args in rows-sound a.edition a.rows.now a.b1.now (some c.before.before.before) (accepted c)
 
 returns-4 : tie.Need-returns-then-file-length
-returns-4 c = let a = c.args in packed-short a.edition a.demand a.rows.now a.b1.now a.file.now (some c.before.before.before.before.before.before) (omega arith) (accepted c.before.before) (omega arith)
+returns-4 c = let a = c.args in packed-short a.edition a.demand a.rows.now a.b1.now a.file.now (some c.before.before.before.before.before) (omega arith) (accepted c.before.before) (omega arith)
 
 write-file-requires : tie.Need-write_file-requires
 write-file-requires c κs = (file-length-requires c.before.before.before c.file_length-length.lifetimes, omega arith)
@@ -53,7 +53,7 @@ same_length c = search rules
 returns-5 : tie.Need-returns
 returns-5 c =
     let a = c.args in
-    packed-written a.edition a.demand a.rows.now a.b1.now a.file.now (some c.before.before.before.before.before.before.before.before.before.before) (omega arith) (accepted c.before.before.before.before.before.before) (omega arith)
+    packed-written a.edition a.demand a.rows.now a.b1.now a.file.now (some c.before.before.before.before.before.before.before.before.before) (omega arith) (accepted c.before.before.before.before.before.before) (omega arith)
     ∙ rw (c.file_length-length.ensures, c.write_file.ensures)
 
 pub pack_in_spec : {M : Type 1} → statement M

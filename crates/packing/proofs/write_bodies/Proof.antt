@@ -64,7 +64,7 @@ loop-again c =
     let units = unit_in_row a.rows.now a.b1.now in
     let row = c.read_row-u.ensures in
     let size : c.body_length-at.result ≡ size_of a.edition (units l.i) = c.body_length-at.ensures.0 ∙ ap (size_of a.edition) row in
-    let f = rw (← size) at (body-next c.requires.0 l.i (omega arith) c.write_body.new.0 l.invariant.4 (c.write_body.ensures ∙ ap (λ (u : Unit). over (body_of_unit a.edition u) (lent l.at l.part)) row)) in
+    let f = rw (← size) at (body-next c.requires.0 l.i (omega arith) c.write_body.new.part l.invariant.4 (c.write_body.ensures ∙ ap (λ (u : Unit). over (body_of_unit a.edition u) (lent l.at l.part)) row)) in
     (omega arith, front_length f (omega (arith, room c.before.before.before.before.before)), omega (arith, total-more a.edition units l.i), omega arith, f)
 
 same_length : tie.Need-shape_of-part invariant-loop decreases-loop

@@ -11,7 +11,7 @@ use Rattle.rules.specs.Layout.{in_second}
 use Rattle.rules.specs.Sound.{Sound}
 use Rattle.rules.proofs.Sound.{sound}
 use Rattle.rules.proofs.Encoding.Body.{edges-behind}
-use Rattle.rules.proofs.Encoding.Front.{Front, given_back, front_length}
+use Rattle.rules.proofs.Encoding.Front.{given_back, front_length}
 use Rattle.fields.specs.Field.{written, unsigned}
 use Rattle.unit.specs.UnitHeld.{unit_held}
 use Rattle.packing.proofs.Written.{words-fit, edges_fit, numbers-front, loss-front, body-whole}
@@ -47,25 +47,25 @@ part-write-words-start c = omega (arith, room c.before.before.before.before.befo
 write-words-requires : tie.Need-write_words-requires
 write-words-requires c κs = (words-fit (is-sound c.before.before.before.before.before.before.before.before.before.before.before.before.before.before.before), simp (length-take, length-drop) (omega (arith, room c.before.before.before.before.before.before.before.before.before.before.before.before.before.before.before)))
 
-numbers : (c : tie.After-write_words) → length (given_back 8 c.write_u32-2.new.0 c.write_words.new.0) ≡ length c.args.part.now
+numbers : (c : tie.After-write_words) → length (given_back 8 c.write_u32-2.new.s c.write_words.new.part) ≡ length c.args.part.now
 numbers c =
     let a = c.args in
     front_length
-    (numbers-front a.edition (unit_held a.u) a.part.now c.write_u32.new.0 c.write_u32-2.new.0 c.write_words.new.0 c.write_u32.ensures c.write_u32-2.ensures c.write_words.ensures)
+    (numbers-front a.edition (unit_held a.u) a.part.now c.write_u32.new.s c.write_u32-2.new.s c.write_words.new.part c.write_u32.ensures c.write_u32-2.ensures c.write_words.ensures)
     (omega (arith, room c.before.before.before.before.before.before.before.before.before.before.before.before.before.before.before.before))
 
 write-number-requires : tie.Need-write_number-requires
 write-number-requires c κs = omega (arith, numbers c.before.before.before, room c.before.before.before.before.before.before.before.before.before.before.before.before.before.before.before.before.before.before.before, c.in_second-width.ensures)
 
 -- b1 as it is written
-loss : (c : tie.After-write_number) → c.write_number.new.0 ≡ written (given_back 8 c.write_u32-2.new.0 c.write_words.new.0) 26 (in_second c.args.edition 4) (unsigned 4 (unit_held c.args.u).b1)
-loss c = c.write_number.ensures ∙ ap₂ (written (given_back 8 c.write_u32-2.new.0 c.write_words.new.0) 26) c.in_second-width.ensures.0 (c.unsigned_i32-loss.ensures ∙ ap (unsigned 4) (read c.before.before.before.before.before.before.before.before.before.before.before.before.before.before.before.before.before.before.before.before))
+loss : (c : tie.After-write_number) → c.write_number.new.s ≡ written (given_back 8 c.write_u32-2.new.s c.write_words.new.part) 26 (in_second c.args.edition 4) (unsigned 4 (unit_held c.args.u).b1)
+loss c = c.write_number.ensures ∙ ap₂ (written (given_back 8 c.write_u32-2.new.s c.write_words.new.part) 26) c.in_second-width.ensures.0 (c.unsigned_i32-loss.ensures ∙ ap (unsigned 4) (read c.before.before.before.before.before.before.before.before.before.before.before.before.before.before.before.before.before.before.before.before))
 
-as_long : (c : tie.After-write_number) → length c.write_number.new.0 ≡ length c.args.part.now
+as_long : (c : tie.After-write_number) → length c.write_number.new.s ≡ length c.args.part.now
 as_long c =
     let a = c.args in
     front_length
-    (loss-front a.edition (unit_held a.u) a.part.now c.write_u32.new.0 c.write_u32-2.new.0 c.write_words.new.0 c.write_u32.ensures c.write_u32-2.ensures c.write_words.ensures c.write_number.new.0 (loss c))
+    (loss-front a.edition (unit_held a.u) a.part.now c.write_u32.new.s c.write_u32-2.new.s c.write_words.new.part c.write_u32.ensures c.write_u32-2.ensures c.write_words.ensures c.write_number.new.s (loss c))
     (omega (arith, room c.before.before.before.before.before.before.before.before.before.before.before.before.before.before.before.before.before.before.before.before))
 
 sub-write-words-2 : tie.Need-slice_bounds-write_words-count-2
@@ -88,7 +88,7 @@ write-words-requires-2 c κs =
 returns : tie.Need-returns
 returns c =
     let a = c.args in
-    body-whole a.edition (unit_held a.u) a.part.now c.write_u32.new.0 c.write_u32-2.new.0 c.write_words.new.0 c.write_u32.ensures c.write_u32-2.ensures c.write_words.ensures c.write_number.new.0 (loss c.before.before.before.before.before.before.before) _ (ap (λ n. 26 + n) c.in_second-width.ensures.0) c.write_words-2.new.0 c.write_words-2.ensures
+    body-whole a.edition (unit_held a.u) a.part.now c.write_u32.new.s c.write_u32-2.new.s c.write_words.new.part c.write_u32.ensures c.write_u32-2.ensures c.write_words.ensures c.write_number.new.s (loss c.before.before.before.before.before.before.before) _ (ap (λ n. 26 + n) c.in_second-width.ensures.0) c.write_words-2.new.part c.write_words-2.ensures
 
 pub write_body_spec : {M : Type 1} → statement M
 write_body_spec =

@@ -4,7 +4,6 @@ use native.Mathlib.Omega.{arith}
 use mathlib.Core.Path.{◌≡◌, refl, ap, ◌∙◌}
 use lib.ListN.{length}
 use Rattle.rules.specs.Lists.{over, each}
-use Rattle.rules.specs.Unit.{Unit}
 use Rattle.rules.specs.Layout.{unit_in_row, contents_from}
 use Rattle.packing.proofs.Lengths.{size_of, few-zones, total, total-more}
 use Rattle.packing.proofs.Written.{entry_next}

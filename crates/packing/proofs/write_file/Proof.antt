@@ -12,11 +12,11 @@ use Rattle.packing.proofs.write_file.Tie as tie
 write-contents-requires : tie.Need-write_contents-requires
 write-contents-requires c κs = (c.requires.0, simp (length-take, length-drop) (omega arith))
 
-as_long : (c : tie.After-slice_known-3-1) → length (given_back 8 c.write_head.new.0 c.write_contents.new.0) ≡ length c.args.file.now
+as_long : (c : tie.After-slice_known-3-1) → length (given_back 8 c.write_head.new.file c.write_contents.new.contents) ≡ length c.args.file.now
 as_long c =
     let a = c.args in
     front_length
-    (front-contents a.edition a.n a.demand (unit_in_row a.rows.now a.b1.now) a.file.now c.write_head.new.0 c.write_contents.new.0 c.write_head.ensures c.write_contents.ensures)
+    (front-contents a.edition a.n a.demand (unit_in_row a.rows.now a.b1.now) a.file.now c.write_head.new.file c.write_contents.new.contents c.write_head.ensures c.write_contents.ensures)
     (omega (arith, c.requires.1))
 
 sub-write-bodies : tie.Need-slice_bounds-write_bodies-count
@@ -31,7 +31,7 @@ write-bodies-requires c κs = (c.requires.0, simp (length-take, length-drop) (om
 returns : tie.Need-returns
 returns c =
     let a = c.args in
-    file-whole a.edition a.n a.demand (unit_in_row a.rows.now a.b1.now) a.file.now c.write_head.new.0 c.write_contents.new.0 c.write_head.ensures c.write_contents.ensures c.write_bodies.new.0 c.write_bodies.ensures
+    file-whole a.edition a.n a.demand (unit_in_row a.rows.now a.b1.now) a.file.now c.write_head.new.file c.write_contents.new.contents c.write_head.ensures c.write_contents.ensures c.write_bodies.new.part c.write_bodies.ensures
 
 pub write_file_spec : {M : Type 1} → statement M
 write_file_spec =

@@ -11,24 +11,22 @@ use Rattle.telling.proofs.Told.{three_written}
 use Rattle.telling.proofs.tell_costs.Statement.{statement}
 use Rattle.telling.proofs.tell_costs.Tie as tie
 
-slice-set-from-answers-2 : tie.Need-slice-set-from-answers-2
+slice-set-from-answers-2 : tie.Need-bounds-answers-1
 slice-set-from-answers-2 c = simp length-set (omega arith)
 
-returns : tie.Need-returns
-returns c = rw c.before.before.costs.given.1 (c.number.ensures, refl)
+returns : tie.Need-returns-in-Refused
+returns c = rw c.in-Refused.is (c.number.ensures, refl)
 
-returns-2 : tie.Need-returns-2
+returns-2 : tie.Need-returns-in-Read
 returns-2 c =
-    let x = c.before in
-    let s = x.before.before in
-    let f = x.costs2.given.0 in
-    let c0 : to_z w64 f.1.1.0 ≡ pos f.1.1.0 = to_z_pos w64 (omega arith) in
-    let c1 : to_z w64 f.1.0 ≡ pos f.1.0 = to_z_pos w64 (omega arith) in
-    let c2 : to_z w64 f.0 ≡ pos f.0 = to_z_pos w64 (omega arith) in
-    rw (x.costs2.given.1, c0, c1, c2) (refl, three_written s.args.answers.now (pos f.1.1.0) (pos f.1.0) (pos f.0) s.requires)
+    let f = c.in-Read in
+    let c0 : to_z w64 f.c0 ≡ pos f.c0 = to_z_pos w64 (omega arith) in
+    let c1 : to_z w64 f.c1 ≡ pos f.c1 = to_z_pos w64 (omega arith) in
+    let c2 : to_z w64 f.c2 ≡ pos f.c2 = to_z_pos w64 (omega arith) in
+    rw (f.is, c0, c1, c2) (refl, three_written c.args.answers.now (pos f.c0) (pos f.c1) (pos f.c2) c.requires)
 
-pub tell-costs-spec : {M : Type 1} → statement M
-tell-costs-spec =
+pub tell_costs_spec : {M : Type 1} → statement M
+tell_costs_spec =
     tie.close
     (tie.spec
     (λ c. search rules)

@@ -11,43 +11,43 @@ use Rattle.unpacking.proofs.Unpacked.{unpacked-short, unpacked-edition, unpacked
 use Rattle.unpacking.proofs.unpack.Statement.{statement}
 use Rattle.unpacking.proofs.unpack.Tie as tie
 
-returns : tie.Need-returns
+returns : tie.Need-returns-then-rows-lt608
 returns c =
-    let a = c.before.before.before.args in
+    let a = c.args in
     unpacked-short a.file.now a.rows.now (omega arith)
 
 -- the edition
-edition-refused : tie.Need-returns-2
+edition-refused : tie.Need-returns-in-Refused
 edition-refused c =
-    let a = c.before.before.before.before.before.before.before.args in
-    unpacked-edition a.file.now a.rows.now (omega arith) (sym c.before.before.before.check-edition.ensures ∙ c.before.edition.given.1)
+    let a = c.args in
+    unpacked-edition a.file.now a.rows.now (omega arith) (sym c.check_edition-edition.ensures ∙ c.in-Refused.is)
 
-known : (c : tie.After-enum-told) → edition_verdict 1 c.before.before.before.before.before.before.args.file.now ≡ Accepted
-known c = sym c.before.before.check-edition.ensures ∙ c.enum_told.given.1
+known : (c : tie.In_default) → edition_verdict 1 c.args.file.now ≡ Accepted
+known c = sym c.check_edition-edition.ensures ∙ c.in_default.is
 
 -- the file
-returns-3 : tie.Need-returns-3
+returns-3 : tie.Need-returns-in-Refused-verdict
 returns-3 c =
-    let a = c.before.before.before.before.before.before.before.before.before.before.args in
-    unpacked-refused a.file.now a.rows.now (omega arith) (known c.before.before.before.before) (sym c.before.before.before.check.ensures ∙ c.before.verdict.given.1)
+    let a = c.args in
+    unpacked-refused a.file.now a.rows.now (omega arith) (known c.before.before) (sym c.check-verdict.ensures ∙ c.in-Refused-verdict.is)
 
-accepted : (c : tie.After-enum-told2) → file_verdict c.before.before.before.before.before.before.before.before.before.args.file.now ≡ Accepted
-accepted c = sym c.before.before.check.ensures ∙ c.enum-told2.given.1
+accepted : (c : tie.In_default-verdict) → file_verdict c.args.file.now ≡ Accepted
+accepted c = sym c.check-verdict.ensures ∙ c.in_default-verdict.is
 
-few : (c : tie.After-enum-told2) → HeadRead c.before.before.before.before.before.before.before.before.before.args.file.now (count c.before.before.before.before.before.before.before.before.before.args.file.now)
-few c = accepted-head c.before.before.before.before.before.before.before.before.before.args.file.now (accepted c)
+few : (c : tie.In_default-verdict) → HeadRead c.args.file.now (count c.args.file.now)
+few c = accepted-head c.args.file.now (accepted c)
 
-write-rows-requires : tie.Need-write-rows-requires
+write-rows-requires : tie.Need-write_rows-requires
 write-rows-requires c κs = (accepted c.before.before, (omega arith, omega (arith, few c.before.before)))
 
-returns-4 : tie.Need-returns-4
+returns-4 : tie.Need-returns
 returns-4 c =
-    let e = c.before.before.before.before.before.before in
-    let a = e.before.before.before.before.before.before.before.before.before.args in
-    unpacked-read a.file.now a.rows.now (omega arith) (known e.before.before.before) (accepted e) ∙ rw (c.before.before.before.write-rows.ensures, c.before.before.before.before.before.count.ensures, c.demand.ensures)
+    let e = c in
+    let a = e.args in
+    unpacked-read a.file.now a.rows.now (omega arith) (known e.before.before.before.before.before.before.before.before) (accepted e.before.before.before.before.before.before) ∙ rw (c.write_rows.ensures, c.count-n.ensures, c.demand.ensures)
 
-pub unpack-spec : {M : Type 1} → statement M
-unpack-spec =
+pub unpack_spec : {M : Type 1} → statement M
+unpack_spec =
     tie.close
     (tie.spec
     returns
