@@ -20,7 +20,7 @@ abbrev decreases-loop : tie.decreases-loop-i
 decreases-loop demands i₀ i = length demands - i
 
 returns : tie.Need-returns-then-demands-gt96 invariant-loop decreases-loop
-returns c = rw (lt-ltb 96 (length c.before.args.demands.now) c.if-demands-gt96.true)
+returns c = rw (lt-ltb 96 (length c.args.demands.now) c.if-demands-gt96.true)
 
 loop-holds : tie.Need-loop-i-init invariant-loop decreases-loop
 loop-holds c = passing_starts small _
@@ -33,9 +33,9 @@ shared-slice-read-if2 c = omega arith
 
 returns-2 : tie.Need-returns-then-demands-i-gt320000 invariant-loop decreases-loop
 returns-2 c =
-    let l = c.before.before.before in
-    let e = l.before in
-    let demands = e.before.args.demands.now in
+    let l = c in
+    let e = l in
+    let demands = e.args.demands.now in
     rw (le-ltb 96 (length demands) e.if-demands-gt96.false, passing_fails small demands l.loop-i.invariant (omega arith) (lt-leb _ 320000 c.if-demands-i-gt320000.true))
 
 add-i : tie.Need-overflow_add-i invariant-loop decreases-loop
@@ -45,13 +45,13 @@ loop-less : tie.Need-loop-i-smaller invariant-loop decreases-loop
 loop-less c = omega arith
 
 loop-again : tie.Need-loop-i-preserved invariant-loop decreases-loop
-loop-again c = let l = c.before.before.before in passing_more small l.before.before.args.demands.now l.loop-i.invariant (omega arith) (le-leb (get_or l.before.before.args.demands.now l.loop-i.i 0) 320000 (omega (arith, c.if-demands-i-gt320000.false)))
+loop-again c = let l = c in passing_more small l.args.demands.now l.loop-i.invariant (omega arith) (le-leb (get_or l.args.demands.now l.loop-i.i 0) 320000 (omega (arith, c.if-demands-i-gt320000.false)))
 
 returns-3 : tie.Need-returns invariant-loop decreases-loop
 returns-3 c =
-    let l = c.before in
-    let e = l.before in
-    let demands = e.before.args.demands.now in
+    let l = c in
+    let e = l in
+    let demands = e.args.demands.now in
     rw (le-ltb 96 (length demands) e.if-demands-gt96.false, passing_ends small demands l.loop-i.invariant (omega arith))
 
 pub demands_invalid_spec : {M : Type 1} → statement M

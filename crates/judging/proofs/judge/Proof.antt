@@ -13,42 +13,42 @@ use Rattle.judging.proofs.judge.Tie as tie
 
 -- ---- from step 1 back to the entry
 
-abbrev entry : tie.After-first-best → tie.Start
+abbrev entry : tie.After-first_best-first → tie.Start
 entry d = d.before.before.before.before.before.before.before
 
 -- the case is refused
-returns-2 : tie.Need-returns-2
+returns-2 : tie.Need-returns-in-Refused
 returns-2 c =
-    let d = c.before.before.before in
-    sym (judged-refused (entry d).args.file.now (entry d).args.outputs.now (first-refused _ _ _ _ _ c.before.first.given.1 d.first-best.ensures))
+    let d = c in
+    sym (judged-refused (entry d.before).args.file.now (entry d.before).args.outputs.now (first-refused _ _ _ _ _ c.in-Refused.is d.first_best-first.ensures))
 
 -- or accepted
-module _ (c : tie.After-known-told2) where
-  abbrev d : tie.After-first-best
-  d = c.before.before.before
+module _ (c : tie.In-Found) where
+  abbrev d : tie.After-first_best-first
+  d = c.before
 
-  first : let l = d.first-best.last in let v = c.before.first2.given.0 in First (entry d).args.file.now l.1.0 l.1.1.0 l.1.1.1.0 l.1.1.1.1.0 v.0 v.1.0 v.1.1.0 v.1.1.1.0
-  first = first_found _ _ _ _ _ c.before.first2.given.1 d.first-best.ensures
+  first : let l = d.first_best-first.new in let v = c.first-in-Found-1.given.0 in First (entry d).args.file.now l.1.0 l.1.1.0 l.1.1.1.0 l.1.1.1.1.0 v.0 v.1.0 v.1.1.0 v.1.1.1.0
+  first = first_found _ _ _ _ _ c.in-Found.is d.first_best-first.ensures
 
-  counted : c.before.first2.given.0.0 ≡ length (case_of (entry d).args.file.now).units
+  counted : c.first-in-Found-1.given.0.0 ≡ length (case_of (entry d).args.file.now).units
   counted = units-counted first.site
 
-returns : tie.Need-returns
+returns : tie.Need-returns-then-outputs-count
 returns c =
-    let k = c.before in
-    sym (judged-count (entry (d k)).args.file.now (entry (d k)).args.outputs.now (first k).accepted (λ e. c.if1.true (e ∙ sym (counted k))))
+    let k = c in
+    sym (judged-count (entry (d k.before)).args.file.now (entry (d k.before)).args.outputs.now (first k.before).accepted (λ e. c.if-outputs-count.true (e ∙ sym (counted k.before))))
 
-judge-outputs-requires : tie.Need-judge-outputs-requires
-judge-outputs-requires c κs = let e = c.before.before.before in (solving (first e.before), e.if1.false)
+judge-outputs-requires : tie.Need-judge_outputs-requires
+judge-outputs-requires c κs = let e = c in (solving (first e.before.before.before.before), e.if-outputs-count.false)
 
-returns-3 : tie.Need-returns-3
+returns-3 : tie.Need-returns-else-outputs-count
 returns-3 c =
-    let e = c.before.before.before.before in
-    let k = e.before in
-    sym (judged-held (entry (d k)).args.file.now (entry (d k)).args.outputs.now (first k).accepted (e.if1.false ∙ counted k) c.judge-outputs.result (held (first k) (entry (d k)).args.outputs.now c.judge-outputs.result c.judge-outputs.ensures))
+    let e = c in
+    let k = e in
+    sym (judged-held (entry (d k.before.before.before.before.before)).args.file.now (entry (d k.before.before.before.before.before)).args.outputs.now (first k.before.before.before.before.before).accepted (e.if-outputs-count.false ∙ counted k.before.before.before.before.before) c.judge_outputs.result (held (first k.before.before.before.before.before) (entry (d k.before.before.before.before.before)).args.outputs.now c.judge_outputs.result c.judge_outputs.ensures))
 
-pub judge-spec : {M : Type 1} → statement M
-judge-spec =
+pub judge_spec : {M : Type 1} → statement M
+judge_spec =
     tie.close
     (tie.spec
     (λ c κs. search rules)

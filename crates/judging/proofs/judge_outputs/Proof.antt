@@ -12,50 +12,50 @@ use Rattle.judging.proofs.judge_outputs.Statement.{statement}
 use Rattle.judging.proofs.judge_outputs.Tie as tie
 
 -- from what the sums are known to be, back to the sums and to the entry
-abbrev summed : tie.After-known-told → tie.After-sum-outputs
-summed c = c.before.before.before
+abbrev summed : tie.In-Permitted → tie.After-sum_outputs-sums
+summed c = c.before
 
-abbrev entry : tie.After-sum-outputs → tie.Start
+abbrev entry : tie.After-sum_outputs-sums → tie.Start
 entry c = c.before.before
 
-sums : (c : tie.After-known-told) → let a = (entry (summed c)).args in let v = c.before.sums.given.0 in SumHeld a.coefficients.now a.ends.now a.ranges.now a.n a.outputs.now v.0 v.1.0
+sums : (c : tie.In-Permitted) → let a = (entry (summed c)).args in let v = c.sums-1.given.0 in SumHeld a.coefficients.now a.ends.now a.ranges.now a.n a.outputs.now v.0 v.1.0
 sums c =
     let a = (entry (summed c)).args in
-    subst (SumTold a.coefficients.now a.ends.now a.ranges.now a.n a.outputs.now) c.before.sums.given.1 (summed c).sum-outputs.ensures
+    subst (SumTold a.coefficients.now a.ends.now a.ranges.now a.n a.outputs.now) c.in-Permitted.is (summed c).sum_outputs-sums.ensures
 
-returns : tie.Need-returns
-returns c = uncovered (sums c.before) c.if1.taken
+returns : tie.Need-returns-then-net-target
+returns c = uncovered (sums c.before) c.if-net-target.true
 
 -- from after the search back to it, and to the cover
-abbrev searched : tie.After-struct-told → tie.After-search
+abbrev searched : tie.After-struct_told-1 → tie.After-search-found
 searched c = c.before.before
 
-abbrev covered : tie.After-struct-told → tie.Else1
+abbrev covered : tie.After-struct_told-1 → tie.Else-net-target
 covered c = (searched c).before.before
 
-floor-fits : (c : tie.After-struct-told) → SFits w64 (searched c).search.result.floor
+floor-fits : (c : tie.After-struct_told-1) → SFits w64 (searched c).search-found.result.floor
 floor-fits c = search rules
 
 distance-requires : tie.Need-distance-requires
 distance-requires c κs =
     let e = covered c in
-    rw (to_z-of_z {w = w64} (floor-fits c)) (measurable (sums e.before) e.if1.left (searched c).search.ensures (entry (summed e.before)).pre.0)
+    rw (to_z-of_z {w = w64} (floor-fits c)) (measurable (sums e.before) e.if-net-target.false (searched c).search-found.ensures (entry (summed e.before)).requires.0)
 
-returns-2 : tie.Need-returns-2
+returns-2 : tie.Need-returns-in-NotPermitted
 returns-2 c =
-    let d = c.before.before in
-    let a = (entry d).args in
-    unpermitted (subst (SumTold a.coefficients.now a.ends.now a.ranges.now a.n a.outputs.now) c.enum_told.given.1 d.sum-outputs.ensures)
+    let d = c in
+    let a = (entry d.before).args in
+    unpermitted (subst (SumTold a.coefficients.now a.ends.now a.ranges.now a.n a.outputs.now) c.in-NotPermitted.is d.sum_outputs-sums.ensures)
 
-returns-3 : tie.Need-returns-3
+returns-3 : tie.Need-returns-else-net-target
 returns-3 c =
-    let b = c.before in
-    let e = covered b in
-    accepted (sums e.before) e.if1.left (searched b).search.ensures
-    (c.distance.ensures ∙ ap (λ (z : ℤ). natural (pos e.before.before.sums.given.0.0 -ℤ z)) (to_z-of_z {w = w64} (floor-fits b)))
+    let b = c in
+    let e = covered b.before in
+    accepted (sums e.before) e.if-net-target.false (searched b.before).search-found.ensures
+    (c.distance.ensures ∙ ap (λ (z : ℤ). natural (pos e.sums-1.given.0.0 -ℤ z)) (to_z-of_z {w = w64} (floor-fits b.before)))
 
-pub judge-outputs-spec : {M : Type 1} → statement M
-judge-outputs-spec =
+pub judge_outputs_spec : {M : Type 1} → statement M
+judge_outputs_spec =
     tie.close
     (tie.spec
     (λ c κs. search rules)

@@ -12,10 +12,10 @@ use Rattle.regions.specs.Regions.{low, high, Between}
 use Rattle.judging.proofs.lies_within.Statement.{statement}
 use Rattle.judging.proofs.lies_within.Tie as tie
 
-abbrev invariant-loop : tie.invariant-loop
+abbrev invariant-loop : tie.invariant-loop-k
 invariant-loop ends first last p k₀ k = (first ≤ k) × ((j : ℕ) → j < k → first ≤ j → Between (low ends j) (high ends j) p → ⊥)
 
-abbrev decreases-loop : tie.decreases-loop
+abbrev decreases-loop : tie.decreases-loop-k
 decreases-loop ends first last p k₀ k = suc last - k
 
 -- what the test tells
@@ -27,26 +27,26 @@ inside low high p e =
 outside : (low high p : ℕ) → (leb low p && leb p high) ≡ false → Between low high p → ⊥
 outside low high p e b = true≢false (sym ((and-true (leb low p) (leb p high)).1 (le-leb low p b.from, le-leb p high b.to)) ∙ e)
 
-returns : tie.Need-returns invariant-loop decreases-loop
+returns : tie.Need-returns-then-between invariant-loop decreases-loop
 returns c =
-    let l = c.before.before.before.before.before.loop in
+    let l = c.loop-k in
     record {
-      inside = λ e. record { region = l.k; from = l.invariant.0; to = omega arith; inside = inside _ _ _ (sym c.before.between.ensures ∙ c.if1.true) };
+      inside = λ e. record { region = l.k; from = l.invariant.0; to = omega arith; inside = inside _ _ _ (sym c.between.ensures ∙ c.if-between.true) };
       outside = λ e. absurd (true≢false e);
     }
 
-loop-again : tie.Need-loop-preserved invariant-loop decreases-loop
+loop-again : tie.Need-loop-k-preserved invariant-loop decreases-loop
 loop-again c =
-    let l = c.before.before.before.before.before.loop in
-    (omega arith, below_more _ _ l.invariant.1 (λ f. outside _ _ _ (sym c.before.between.ensures ∙ c.if1.false)))
+    let l = c.loop-k in
+    (omega arith, below_more _ _ l.invariant.1 (λ f. outside _ _ _ (sym c.between.ensures ∙ c.if-between.false)))
 
-returns-2 : tie.Need-returns-2 invariant-loop decreases-loop
+returns-2 : tie.Need-returns invariant-loop decreases-loop
 returns-2 c =
-    let l = c.before.loop in
+    let l = c.loop-k in
     record { inside = λ e. absurd (true≢false (sym e)); outside = λ e w. l.invariant.1 w.region (omega arith) w.from w.inside }
 
-pub lies-within-spec : {M : Type 1} → statement M
-lies-within-spec =
+pub lies_within_spec : {M : Type 1} → statement M
+lies_within_spec =
     tie.close
     (tie.spec
     invariant-loop

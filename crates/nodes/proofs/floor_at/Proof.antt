@@ -11,19 +11,24 @@ use Rattle.nodes.proofs.TwoMultipliers.{dual_summed}
 use Rattle.nodes.proofs.floor_at.Statement.{statement}
 use Rattle.nodes.proofs.floor_at.Tie as tie
 
-dual-of-requires : tie.Need-dual-of-requires
+dual-of-requires : tie.Need-dual_of-requires
 dual-of-requires c κs = search rules
 
-floor-of-requires : tie.Need-floor-of-requires
+floor-of-requires : tie.Need-floor_of-requires
 floor-of-requires c κs = search rules
 
 returns : tie.Need-returns
 unfolding floor
 returns c q h e =
-    let d = c.before in
-    let kept : to_z w64 (of_z w64 d.dual-of.result) ≡ d.dual-of.result = to_z-of_z {w = w64} (search rules) in
-    let read : to_z w64 (of_z w64 c.floor-of.result) ≡ c.floor-of.result = to_z-of_z {w = w64} (search rules) in
-    read ∙ c.floor-of.ensures ∙ ap (λ (z : ℤ). divided_up z 100000) (kept ∙ dual_summed d.before.args.m q h e d.dual-of.ensures)
+    let d = c in
+    let kept : to_z w64 (of_z w64 d.dual_of.result) ≡ d.dual_of.result = to_z-of_z {w = w64} (search rules) in
+    let read : to_z w64 (of_z w64 c.floor_of.result) ≡ c.floor_of.result = to_z-of_z {w = w64} (search rules) in
+    read ∙ c.floor_of.ensures ∙ ap (λ (z : ℤ). divided_up z 100000) (kept ∙ dual_summed d.args.m q h e d.dual_of.ensures)
 
-pub floor-at-spec : {M : Type 1} → statement M
-floor-at-spec = tie.close (tie.spec dual-of-requires floor-of-requires returns)
+pub floor_at_spec : {M : Type 1} → statement M
+floor_at_spec =
+    tie.close
+    (tie.spec
+    dual-of-requires
+    floor-of-requires
+    returns)

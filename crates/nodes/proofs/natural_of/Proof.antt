@@ -8,19 +8,24 @@ use Rattle.rules.proofs.Economics.Quantities.{natural-up}
 use Rattle.nodes.proofs.natural_of.Statement.{statement}
 use Rattle.nodes.proofs.natural_of.Tie as tie
 
-returns : tie.Need-returns
-returns c = sym (natural-up c.before.args.z ∙ omega (arith, when_lt (back c.before.ranges.z) (is_pos 0) c.if1.true, one-zero c.before.args.z))
+returns : tie.Need-returns-then-z-lt0
+returns c = sym (natural-up c.args.z ∙ omega (arith, when_lt (back c.ranges.z) (is_pos 0) c.if-z-lt0.true, one-zero c.args.z))
 
-above : (c : tie.Else1) → negative_part c.before.args.z ≤ positive_part c.before.args.z
-above c = omega (arith, when_ge (back c.before.ranges.z) (is_pos 0) c.if1.false)
+above : (c : tie.Else-z-lt0) → negative_part c.args.z ≤ positive_part c.args.z
+above c = omega (arith, when_ge (back c.ranges.z) (is_pos 0) c.if-z-lt0.false)
 
-cast-result : tie.Need-overflow-cast-result
+cast-result : tie.Need-overflow_cast-result
 cast-result c =
-    let z = back c.before.ranges.z in
-    (not_negative z (above c), record { fits = omega (arith, size_is z (above c), fits-up c.before.ranges.z) })
+    let z = back c.ranges.z in
+    (not_negative z (above c), record { fits = omega (arith, size_is z (above c), fits-up c.ranges.z) })
 
-returns-2 : tie.Need-returns-2
-returns-2 c = size_is (back c.before.ranges.z) (above c) ∙ sym (natural-up c.before.args.z ∙ sym (one-zero c.before.args.z))
+returns-2 : tie.Need-returns
+returns-2 c = size_is (back c.ranges.z) (above c) ∙ sym (natural-up c.args.z ∙ sym (one-zero c.args.z))
 
-pub natural-of-spec : {M : Type 1} → statement M
-natural-of-spec = tie.close (tie.spec returns cast-result returns-2)
+pub natural_of_spec : {M : Type 1} → statement M
+natural_of_spec =
+    tie.close
+    (tie.spec
+    returns
+    cast-result
+    returns-2)

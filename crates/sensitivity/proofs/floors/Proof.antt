@@ -22,100 +22,100 @@ use Rattle.sensitivity.proofs.Tracing.{search_traces, counted, small-target, tra
 use Rattle.sensitivity.proofs.floors.Statement.{statement}
 use Rattle.sensitivity.proofs.floors.Tie as tie
 
-demands-invalid-requires : tie.Need-demands-invalid-requires
+demands-invalid-requires : tie.Need-demands_invalid-requires
 demands-invalid-requires c κs = search rules
 
-returns : tie.Need-returns
+returns : tie.Need-returns-then-demands_invalid
 returns c =
-    let d = c.before in
-    let a = d.before.before.before.args in
-    refused-demands a.file.now a.demands.now a.floors.now (sym d.demands-invalid.ensures ∙ c.if1.true)
+    let d = c in
+    let a = d.args in
+    refused-demands a.file.now a.demands.now a.floors.now (sym d.demands_invalid.ensures ∙ c.if-demands_invalid.true)
 
 -- ---- the demands are valid
 
-abbrev asked : tie.Else1 → tie.Start
+abbrev asked : tie.Else-demands_invalid → tie.Start
 asked c = c.before.before.before.before
 
-valid : (c : tie.Else1) → let demands = (asked c).args.demands.now in demands_invalid demands ≡ false
-valid c = sym c.before.demands-invalid.ensures ∙ c.if1.false
+valid : (c : tie.Else-demands_invalid) → let demands = (asked c).args.demands.now in demands_invalid demands ≡ false
+valid c = sym c.demands_invalid.ensures ∙ c.if-demands_invalid.false
 
-returns-2 : tie.Need-returns-2
+returns-2 : tie.Need-returns-then-floors-demands
 returns-2 c =
-    let e = c.before in
-    let a = (asked e).args in
-    refused-short a.file.now a.demands.now a.floors.now (valid e) c.if2.true
+    let e = c in
+    let a = (asked e.before).args in
+    refused-short a.file.now a.demands.now a.floors.now (valid e.before) c.if-floors-demands.true
 
 -- ---- from step 1 back to there
 
-first-best-requires : tie.Need-first-best-requires
+first-best-requires : tie.Need-first_best-first-requires
 first-best-requires c κs = search rules
 
-enum-known-first : tie.Need-enum-known-first
+enum-known-first : tie.Need-enum_known-first
 enum-known-first c = search rules
 
-enum-known-first-2 : tie.Need-enum-known-first-2
+enum-known-first-2 : tie.Need-enum_known-first-in-Found-1
 enum-known-first-2 c = search rules
 
-abbrev passed : tie.After-first-best → tie.Else2
+abbrev passed : tie.After-first_best-first → tie.Else-floors-demands
 passed c = c.before.before.before.before.before
 
-abbrev entry : tie.After-first-best → tie.Start
+abbrev entry : tie.After-first_best-first → tie.Start
 entry c = asked (passed c).before
 
 -- the case is refused
-returns-3 : tie.Need-returns-3
+returns-3 : tie.Need-returns-in-Refused
 returns-3 c =
-    let d = c.before.before.before in
-    let a = (entry d).args in
-    refused-case a.file.now a.demands.now a.floors.now (valid (passed d).before) (omega (arith, (passed d).if2.false))
-    (first-refused _ _ _ _ _ c.before.first.given.1 d.first-best.ensures)
+    let d = c in
+    let a = (entry d.before).args in
+    refused-case a.file.now a.demands.now a.floors.now (valid (passed d.before).before) (omega (arith, (passed d.before).if-floors-demands.false))
+    (first-refused _ _ _ _ _ c.in-Refused.is d.first_best-first.ensures)
 
 -- or accepted
-module _ (c : tie.After-known-told2) where
-  abbrev d : tie.After-first-best
-  d = c.before.before.before
+module _ (c : tie.In-Found) where
+  abbrev d : tie.After-first_best-first
+  d = c.before
 
-  first : let l = d.first-best.last in let v = c.before.first2.given.0 in First (entry d).args.file.now l.1.0 l.1.1.0 l.1.1.1.0 l.1.1.1.1.0 v.0 v.1.0 v.1.1.0 v.1.1.1.0
-  first = first_found _ _ _ _ _ c.before.first2.given.1 d.first-best.ensures
+  first : let l = d.first_best-first.new in let v = c.first-in-Found-1.given.0 in First (entry d).args.file.now l.1.0 l.1.1.0 l.1.1.1.0 l.1.1.1.1.0 v.0 v.1.0 v.1.1.0 v.1.1.1.0
+  first = first_found _ _ _ _ _ c.in-Found.is d.first_best-first.ensures
 
-slice-aggregate-search : tie.Need-slice-aggregate-search
+slice-aggregate-search : tie.Need-slice_bounds-search-end
 slice-aggregate-search c = search rules
 
-abbrev told : tie.After-trace → tie.After-known-told2
+abbrev told : tie.After-trace-1 → tie.In-Found
 told c = c.before.before.before.before
 
-search-requires : tie.Need-search-requires
+search-requires : tie.Need-search-found-requires
 search-requires c κs = let f = first (told c) in (record { problem = _; holds = holding f }, f.allocates.sized)
 
-cast-evaluations : tie.Need-overflow-cast-evaluations
+cast-evaluations : tie.Need-overflow_cast-evaluations
 cast-evaluations c = search rules
 
 -- the trace is as long as it was
-abbrev searched : tie.After-trace2 → tie.After-search
+abbrev searched : tie.After-trace-in-Found-1 → tie.After-search-found
 searched c = c.before
 
-long : (c : tie.After-trace2) → 36 ≡ length (searched c).search.new.1.1.1.1.1.1.0
-long c = omega (arith, c.trace2.given)
+long : (c : tie.After-trace-in-Found-1) → 36 ≡ length (searched c).search-found.new.trace
+long c = omega (arith, c.trace-in-Found-1.given)
 
-roomy : (c : tie.After-trace2) → 36 ≤ length (searched c).search.new.1.1.1.1.1.1.0
+roomy : (c : tie.After-trace-in-Found-1) → 36 ≤ length (searched c).search-found.new.trace
 roomy c = omega (arith, long c)
 
-slice-aggregate-write-floors : tie.Need-slice-aggregate-write-floors
+slice-aggregate-write-floors : tie.Need-slice_bounds-write_floors-end
 slice-aggregate-write-floors c = long c.before.before
 
-write-floors-requires : tie.Need-write-floors-requires
+write-floors-requires : tie.Need-write_floors-requires
 write-floors-requires c κs =
-    let x = c.before.before.before in
-    let s = searched x in
+    let x = c in
+    let s = searched x.before.before.before in
     let k = told s.before in
     let f = first k in
-    let room = roomy x in
+    let room = roomy x.before.before.before in
     let v = valid-demands (entry (d k)).args.demands.now (valid (passed (d k)).before) in (
-      traced f s.search.ensures room,
-      record { target = small-target f s.search.ensures room; valid = v; room = omega (arith, (passed (d k)).if2.false) },
+      traced f s.search-found.ensures room,
+      record { target = small-target f s.search-found.ensures room; valid = v; room = omega (arith, (passed (d k)).if-floors-demands.false) },
     )
 
-same_length : tie.Need-same-length
+same_length : tie.Need-shape_of-floors
 same_length c = search rules
 
 -- the floors of the evaluated multipliers are the floors
@@ -123,20 +123,20 @@ floors-are : (file demands : List ℕ) (after before : List ℤ) → after ≡ o
 unfolding floor_for
 floors-are file demands after before e = e
 
-returns-4 : tie.Need-returns-4
+returns-4 : tie.Need-returns-in-Found
 returns-4 c =
-    let w = c.before in
-    let x = w.before.before.before.before in
-    let s = searched x in
+    let w = c in
+    let x = w in
+    let s = searched x.before.before.before.before.before in
     let k = told s.before in
     let f = first k in
     let a = (entry (d k)).args in
-    let room = roomy x in
-    written a.file.now a.demands.now a.floors.now (valid (passed (d k)).before) (omega (arith, (passed (d k)).if2.false)) f.accepted
-    (floors-are a.file.now a.demands.now _ a.floors.now (w.write-floors.ensures.written (problem_in a.file.now) (found (problem_in a.file.now)).evaluated (search_traces f s.search.ensures room) (counted f s.search.ensures room) f.site.demanded))
+    let room = roomy x.before.before.before.before.before in
+    written a.file.now a.demands.now a.floors.now (valid (passed (d k)).before) (omega (arith, (passed (d k)).if-floors-demands.false)) f.accepted
+    (floors-are a.file.now a.demands.now _ a.floors.now (w.write_floors.ensures.written (problem_in a.file.now) (found (problem_in a.file.now)).evaluated (search_traces f s.search-found.ensures room) (counted f s.search-found.ensures room) f.site.demanded))
 
-pub floors-spec : {M : Type 1} → statement M
-floors-spec =
+pub floors_spec : {M : Type 1} → statement M
+floors_spec =
     tie.close
     (tie.spec
     demands-invalid-requires

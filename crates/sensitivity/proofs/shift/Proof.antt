@@ -11,13 +11,13 @@ use Rattle.fields.proofs.Integers.{is_minus, cast, fits}
 use Rattle.sensitivity.proofs.shift.Statement.{statement}
 use Rattle.sensitivity.proofs.shift.Tie as tie
 
-mul-result : tie.Need-overflow-mul-result
+mul-result : tie.Need-overflow_mul-result
 mul-result c = search rules
 
-cast-result : tie.Need-overflow-cast-result
+cast-result : tie.Need-overflow_cast-result-2
 cast-result c = search rules
 
-cast-result-2 : tie.Need-overflow-cast-result-2
+cast-result-2 : tie.Need-overflow_cast-result-3
 cast-result-2 c = search rules
 
 difference-fits : (c : tie.Start) → SFits w64 (to_z w64 (100000000 * c.args.d) -ℤ to_z w64 c.args.target)
@@ -25,7 +25,7 @@ difference-fits c =
     let (t, d) = c.requires in
     fits (is_minus (cast (100000000 * c.args.d) (omega arith)) (cast c.args.target (omega arith))) (omega arith) (omega arith)
 
-sub-result : tie.Need-overflow-sub-result
+sub-result : tie.Need-overflow_sub-result
 sub-result c = difference-fits c
 
 returns : tie.Need-returns
@@ -33,5 +33,12 @@ returns c =
     let (t, d) = c.requires in
     to_z-of_z {w = w64} (difference-fits c) ∙ ap₂ ◌-ℤ◌ (to_z_pos w64 {n = 100000000 * c.args.d} (omega arith)) (to_z_pos w64 {n = c.args.target} (omega arith))
 
-pub shift-spec : {M : Type 1} → statement M
-shift-spec = tie.close (tie.spec mul-result cast-result cast-result-2 sub-result returns)
+pub shift_spec : {M : Type 1} → statement M
+shift_spec =
+    tie.close
+    (tie.spec
+    mul-result
+    cast-result
+    cast-result-2
+    sub-result
+    returns)
