@@ -18,7 +18,7 @@ summed c = c.before
 abbrev entry : tie.After-sum_outputs-sums → tie.Start
 entry c = c.before.before
 
-sums : (c : tie.In-Permitted) → let a = (entry (summed c)).args in let v = c.sums-1.given.0 in SumHeld a.coefficients.now a.ends.now a.ranges.now a.n a.outputs.now v.0 v.1.0
+sums : (c : tie.In-Permitted) → let a = (entry (summed c)).args in let v = c.in-Permitted in SumHeld a.coefficients.now a.ends.now a.ranges.now a.n a.outputs.now v.cost v.net
 sums c =
     let a = (entry (summed c)).args in
     subst (SumTold a.coefficients.now a.ends.now a.ranges.now a.n a.outputs.now) c.in-Permitted.is (summed c).sum_outputs-sums.ensures
@@ -52,7 +52,7 @@ returns-3 c =
     let b = c in
     let e = covered b.before in
     accepted (sums e.before) e.if-net-target.false (searched b.before).search-found.ensures
-    (c.distance.ensures ∙ ap (λ (z : ℤ). natural (pos e.sums-1.given.0.0 -ℤ z)) (to_z-of_z {w = w64} (floor-fits b.before)))
+    (c.distance.ensures ∙ ap (λ (z : ℤ). natural (pos e.in-Permitted.cost -ℤ z)) (to_z-of_z {w = w64} (floor-fits b.before)))
 
 pub judge_outputs_spec : {M : Type 1} → statement M
 judge_outputs_spec =

@@ -112,11 +112,11 @@ sum_outputs_spec =
     decreases-loop
     loop-holds
     (λ c. omega (arith, few c))
-    (λ c. omega (arith, few c))
+    (λ c. omega (arith, few c.before))
     cast-first
-    (λ c. omega (arith, few c.before))
-    (λ c. omega (arith, few c.before))
-    (λ c. omega (arith, few c.before))
+    (λ c. omega (arith, few c.before.before))
+    (λ c. omega (arith, few c.before.before))
+    (λ c. omega (arith, few c.before.before))
     cast-last
     (λ c. omega arith)
     shared-slice-read-p

@@ -106,7 +106,7 @@ returns c =
     let l = c.loop-k in
     let s = c in
     let all : l.k ≡ s.args.count = omega (arith, l.invariant.1, c.loop-k-test.false) in
-    let r = subst (λ (z : ℤ). Reached s.args.trace.now z l.k (to_z w64 l.greatest)) (shift_kept s.before.before.before.before) l.invariant.2 in
+    let r = subst (λ (z : ℤ). Reached s.args.trace.now z l.k (to_z w64 l.greatest-bits)) (shift_kept s.before.before.before.before) l.invariant.2 in
     record { greatest = λ q ms t e. r.greatest q ms t (e ∙ sym all) }
 
 pub greatest_dual_spec : {M : Type 1} → statement M

@@ -87,7 +87,7 @@ module _ (c : tie.After-known-told2) where
   abbrev d : tie.After-first-best
   d = c.before.before.before
 
-  first : let l = d.first-best.last in let v = c.before.first2.given.0 in First (entry d).args.file.now l.1.0 l.1.1.0 l.1.1.1.0 l.1.1.1.1.0 v.0 v.1.0 v.1.1.0 v.1.1.1.0
+  first : let l = d.first-best.last in let v = c.before.first2.given.0 in First (entry d).args.file.now l.coefficients l.ends l.ranges l.outputs v.count v.target v.cost v.net
   first = first_found _ _ _ _ _ c.before.first2.given.1 d.first-best.ensures
 
 returns-3 : tie.Need-returns-3

@@ -16,53 +16,53 @@ passed ranges i f e j h = by (ℕ_discrete j i)
     by (yes k) = rw k e
     by (no k) = f j (omega arith)
 
-abbrev invariant-loop : tie.invariant-loop
+abbrev invariant-loop : tie.invariant-loop-i
 invariant-loop ranges n i₀ i = (n ≤ 32) × (i ≤ n) × ((j : ℕ) → j < i → first ranges j ≡ last ranges j)
 
-abbrev decreases-loop : tie.decreases-loop
+abbrev decreases-loop : tie.decreases-loop-i
 decreases-loop ranges n i₀ i = n - i
 
-loop-holds : tie.Need-loop-init invariant-loop decreases-loop
+loop-holds : tie.Need-loop-i-init invariant-loop decreases-loop
 loop-holds c = (omega arith, omega arith, λ j h. absurd (omega arith))
 
-mul-if1 : tie.Need-overflow-mul-if1 invariant-loop decreases-loop
+mul-if1 : tie.Need-overflow_mul-i invariant-loop decreases-loop
 mul-if1 c = omega arith
 
-element-copy-out-if1 : tie.Need-element-copy-out-if1 invariant-loop decreases-loop
+element-copy-out-if1 : tie.Need-bounds-ranges-i invariant-loop decreases-loop
 element-copy-out-if1 c = omega arith
 
-mul-if1-2 : tie.Need-overflow-mul-if1-2 invariant-loop decreases-loop
+mul-if1-2 : tie.Need-overflow_mul-i-in-loop-i invariant-loop decreases-loop
 mul-if1-2 c = omega arith
 
-add-if1 : tie.Need-overflow-add-if1 invariant-loop decreases-loop
+add-if1 : tie.Need-overflow_add-i invariant-loop decreases-loop
 add-if1 c = omega arith
 
-element-copy-out-if1-2 : tie.Need-element-copy-out-if1-2 invariant-loop decreases-loop
+element-copy-out-if1-2 : tie.Need-bounds-ranges-i-in-loop-i invariant-loop decreases-loop
 element-copy-out-if1-2 c = omega arith
 
-returns : tie.Need-returns invariant-loop decreases-loop
+returns : tie.Need-returns-then-ranges-i invariant-loop decreases-loop
 returns c =
-    let l = c.before.before.before.before.loop in
-    record { within = omega arith; before = l.invariant.2; several = λ _ e. c.if1.true e }
+    let l = c.loop-i in
+    record { within = omega arith; before = l.invariant.2; several = λ _ e. c.if-ranges-i.true e }
 
-add-i : tie.Need-overflow-add-i invariant-loop decreases-loop
+add-i : tie.Need-overflow_add-i-in-loop-i invariant-loop decreases-loop
 add-i c = omega arith
 
-loop-less : tie.Need-loop-smaller invariant-loop decreases-loop
+loop-less : tie.Need-loop-i-smaller invariant-loop decreases-loop
 loop-less c = omega arith
 
-loop-again : tie.Need-loop-preserved invariant-loop decreases-loop
+loop-again : tie.Need-loop-i-preserved invariant-loop decreases-loop
 loop-again c =
-    let l = c.before.before.before.before.loop in
-    (omega arith, omega arith, passed c.before.before.before.before.before.args.ranges.now l.i l.invariant.2 c.if1.false)
+    let l = c.loop-i in
+    (omega arith, omega arith, passed c.args.ranges.now l.i l.invariant.2 c.if-ranges-i.false)
 
-returns-2 : tie.Need-returns-2 invariant-loop decreases-loop
+returns-2 : tie.Need-returns invariant-loop decreases-loop
 returns-2 c =
-    let l = c.before.loop in
+    let l = c.loop-i in
     record { within = omega arith; before = l.invariant.2; several = λ h. absurd (omega arith) }
 
-pub first-several-spec : {M : Type 1} → statement M
-first-several-spec =
+pub first_several_spec : {M : Type 1} → statement M
+first_several_spec =
     tie.close
     (tie.spec
     invariant-loop
