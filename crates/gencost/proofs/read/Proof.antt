@@ -1,4 +1,4 @@
--- `gencost::read` meets its contract: word by word (`Taking`), and the row by where that ends (`Reading`).
+-- `gencost::read` meets its contract: word by word (`Taking`), and the row by where that ends (`Reading`). (Goals and facts named for a condition that an edit of must-fail changes are cited without that name.)
 use Prim.Native.Nat.{ℕ}
 use mathlib.Core.Bool.{true}
 use mathlib.Core.List.{List}
@@ -38,9 +38,6 @@ second c = c.before.before
 constant : (c : tie.In-Number-next_number-2) → Took (row (first (second c)).before.before.before) 6 6 1000000000 c.in-Number-next_number-2.constant c.in-Number-next_number-2.end
 constant c = let r = c in took _ (linear r.before.before).behind 6 1000000000 (sym r.next_number-3.ensures.0 ∙ c.in-Number-next_number-2.is)
 
-returns : tie.Need-returns-then-row-gt256
-returns c = refused _ (too_long _ c.if-row-gt256.true)
-
 returns-2 : tie.Need-returns-then-row-eq0
 returns-2 c = refused _ (not-tight _ (empty _ c.if-row-eq0.true))
 
@@ -78,9 +75,6 @@ returns-7 c =
     let k = first r.before.before in
     refused _ (other_word _ (rw ((head k.before.before).0, (square k).formed, l.formed, took-none _ l.behind 6 1000000000 (sym r.next_number-3.ensures.0 ∙ c.in_default-next_number-2.is))))
 
-returns-8 : tie.Need-returns-then-end-row
-returns-8 c = refused _ (not-ended _ (constant c.before).behind c.if-end-row.true)
-
 returns-9 : tie.Need-returns
 returns-9 c =
     let k = c in
@@ -89,14 +83,14 @@ returns-9 c =
     let e = (first (second k.before.before)) in
     let b = e in
     let whole-form =
-    formed (row e.before.before.before) b.if-row-gt256.false (omega arith) (sym b.is_blank.ensures ∙ b.if-is_blank.false) (head e.before.before).0 s.formed l.formed (constant k.before.before).formed (constant k.before.before).behind c.if-end-row.false (constant k.before.before).solid in
+    formed (row e.before.before.before) (omega arith) (omega arith) (sym b.is_blank.ensures ∙ b.if-is_blank.false) (head e.before.before).0 s.formed l.formed (constant k.before.before).formed (constant k.before.before).behind (omega arith) (constant k.before.before).solid in
     read-judged (row e.before.before.before) whole-form s.value l.value (constant k.before.before).value c.judged.ensures
 
 pub read_spec : {M : Type 1} → statement M
 read_spec =
     tie.close
     (tie.spec
-    returns
+    (λ c. refused _ (too_long _ (omega arith)))
     returns-2
     (λ c. search rules)
     (λ c κs. search rules)
@@ -115,6 +109,6 @@ read_spec =
     (λ c. search rules)
     (λ c. search rules)
     returns-7
-    returns-8
+    (λ c. refused _ (not-ended _ (constant c.before).behind (omega arith)))
     (λ c κs. search rules)
     returns-9)

