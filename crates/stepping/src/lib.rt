@@ -91,7 +91,7 @@ pub fn start(run: &mut [u64; 41], held: &mut [u8; 1608], file: &[u8]) -> Started
                     outputs,
                 },
             );
-            bytes::copy(file, held);
+            held[..file.len()].copy_from_slice(file);
             Started::Begun
         }
     }

@@ -17,92 +17,92 @@ use Rattle.stepping.proofs.Endings.{advance-unstarted, advance-changed, advance-
 use Rattle.stepping.proofs.advance.Statement.{statement}
 use Rattle.stepping.proofs.advance.Tie as tie
 
-is-begun-requires : tie.Need-is-begun-requires
+is-begun-requires : tie.Need-is_begun-requires
 is-begun-requires c κs = search rules
 
-returns : tie.Need-returns
-returns c = advance-unstarted _ _ _ (sym c.before.is-begun.ensures ∙ not-true _ c.if1.true)
+returns : tie.Need-returns-then-not-is_begun
+returns c = advance-unstarted _ _ _ (sym c.is_begun.ensures ∙ c.if-not-is_begun.true)
 
 -- ---- the run counts as started; its numbers are read
 
-abbrev origin : tie.Else1 → tie.Start
+abbrev origin : tie.Else-not-is_begun → tie.Start
 origin c = c.before.before.before.before.before
 
-begins : (c : tie.Else1) → begun (run_in (origin c).args.run.now) ≡ true
-begins c = sym c.before.is-begun.ensures ∙ not-false _ c.if1.false
+begins : (c : tie.Else-not-is_begun) → begun (run_in (origin c).args.run.now) ≡ true
+begins c = sym c.is_begun.ensures ∙ c.if-not-is_begun.false
 
-read-requires : tie.Need-read-requires
+read-requires : tie.Need-read-before-requires
 read-requires c κs = (search rules, begins c.before.before)
 
-abbrev begun-at : tie.After-same-bytes → tie.Else1
+abbrev begun-at : tie.After-same_bytes → tie.Else-not-is_begun
 begun-at c = c.before.before.before.before.before
 
-length-read : (c : tie.After-read) → c.read.result.length ≡ (run_in (origin c.before.before.before).args.run.now).length
-length-read c = ap (λ (r : Run). r.length) c.read.ensures
+length-read : (c : tie.After-read-before) → c.read-before.result.length ≡ (run_in (origin c.before.before.before).args.run.now).length
+length-read c = ap (λ (r : Run). r.length) c.read-before.ensures
 
-same-bytes-requires : tie.Need-same-bytes-requires
+same-bytes-requires : tie.Need-same_bytes-requires
 same-bytes-requires c κs =
-    let e = c.before.before.before.before in
-    let long : length (origin e).args.held.now ≡ 1608 = search rules in
-    omega (arith, length-read c.before, (fitting (run_in (origin e).args.run.now) (begins e)).length)
+    let e = c in
+    let long : length (origin e.before.before.before.before).args.held.now ≡ 1608 = search rules in
+    omega (arith, length-read c.before, (fitting (run_in (origin e.before.before.before.before).args.run.now) (begins e.before.before.before.before)).length)
 
-compared : (c : tie.After-same-bytes) → let a = (origin (begun-at c)).args in c.same_bytes.result ≡ same (held a.run.now a.held.now) a.file.now
+compared : (c : tie.After-same_bytes) → let a = (origin (begun-at c)).args in c.same_bytes.result ≡ same (held a.run.now a.held.now) a.file.now
 compared c = let a = (origin (begun-at c)).args in c.same_bytes.ensures ∙ ap (λ (n : ℕ). same (take n a.held.now) a.file.now) (length-read c.before.before)
 
-returns-2 : tie.Need-returns-2
-returns-2 c = advance-changed _ _ _ (begins (begun-at c.before)) (sym (compared c.before) ∙ not-true _ c.if2.true)
+returns-2 : tie.Need-returns-then-not-same_bytes
+returns-2 c = advance-changed _ _ _ (begins (begun-at c.before)) (sym (compared c.before) ∙ c.if-not-same_bytes.true)
 
-first-best-requires : tie.Need-first-best-requires
+first-best-requires : tie.Need-first_best-first-requires
 first-best-requires c κs = search rules
 
-enum-known-first : tie.Need-enum-known-first
+enum-known-first : tie.Need-enum_known-first
 enum-known-first c = search rules
 
-enum-known-first-2 : tie.Need-enum-known-first-2
+enum-known-first-2 : tie.Need-enum_known-first-in-Found-1
 enum-known-first-2 c = search rules
 
 -- ---- from step 1 back to the comparison and to the entry
 
-abbrev passed : tie.After-first-best → tie.Else2
+abbrev passed : tie.After-first_best-first → tie.Else-not-same_bytes
 passed c = c.before.before.before.before.before
 
-abbrev entry : tie.After-first-best → tie.Start
+abbrev entry : tie.After-first_best-first → tie.Start
 entry c = origin (begun-at (passed c).before)
 
-alike : (c : tie.After-first-best) → same (held (entry c).args.run.now (entry c).args.held.now) (entry c).args.file.now ≡ true
-alike c = sym (compared (passed c).before) ∙ not-false _ (passed c).if2.false
+alike : (c : tie.After-first_best-first) → same (held (entry c).args.run.now (entry c).args.held.now) (entry c).args.file.now ≡ true
+alike c = sym (compared (passed c).before) ∙ not-false _ (passed c).if-not-same_bytes.false
 
-started : (c : tie.After-first-best) → begun (run_in (entry c).args.run.now) ≡ true
+started : (c : tie.After-first_best-first) → begun (run_in (entry c).args.run.now) ≡ true
 started c = begins (begun-at (passed c).before)
 
-read_is : (c : tie.After-first-best) → run_of (passed c).before.before.before.read.result ≡ run_in (entry c).args.run.now
-read_is c = (passed c).before.before.before.read.ensures
+read_is : (c : tie.After-first_best-first) → run_of (passed c).read-before.result ≡ run_in (entry c).args.run.now
+read_is c = (passed c).read-before.ensures
 
-returns-4 : tie.Need-returns-4
+returns-4 : tie.Need-returns-in-Refused
 returns-4 c =
-    let d = c.before.before.before in
-    advance-refused _ _ _ (started d) (alike d) _ (first-refused _ _ _ _ _ c.before.first.given.1 d.first-best.ensures)
+    let d = c in
+    advance-refused _ _ _ (started d.before) (alike d.before) _ (first-refused _ _ _ _ _ c.in-Refused.is d.first_best-first.ensures)
 
-module _ (c : tie.After-known-told2) where
-  abbrev d : tie.After-first-best
-  d = c.before.before.before
+module _ (c : tie.In-Found) where
+  abbrev d : tie.After-first_best-first
+  d = c.before
 
-  first : let l = d.first-best.last in let v = c.before.first2.given.0 in First (entry d).args.file.now l.coefficients l.ends l.ranges l.outputs v.count v.target v.cost v.net
-  first = first_found _ _ _ _ _ c.before.first2.given.1 d.first-best.ensures
+  first : let l = d.first_best-first.new in let v = c.first-in-Found-1.given.0 in First (entry d).args.file.now l.1.0 l.1.1.0 l.1.1.1.0 l.1.1.1.1.0 v.0 v.1.0 v.1.1.0 v.1.1.1.0
+  first = first_found _ _ _ _ _ c.in-Found.is d.first_best-first.ensures
 
-returns-3 : tie.Need-returns-3
+returns-3 : tie.Need-returns-then-before-eq1
 returns-3 c =
-    let t = c.before.before in
-    advance-finished _ _ _ (started (d t)) (alike (d t)) (first t).accepted (sym (ap (λ (r : Run). r.finished) (read_is (d t))) ∙ c.if3.true)
+    let t = c in
+    advance-finished _ _ _ (started (d t.before.before)) (alike (d t.before.before)) (first t.before.before).accepted (sym (ap (λ (r : Run). r.finished) (read_is (d t.before.before))) ∙ c.if-before-eq1.true)
 
-evaluate-next-requires : tie.Need-evaluate-next-requires
+evaluate-next-requires : tie.Need-evaluate_next-after-requires
 evaluate-next-requires c κs =
-    let k = c.before.before.before in
-    let t = k.before.before in
+    let k = c in
+    let t = k in
     record {
-      begins = subst⁻¹ (λ (r : Run). begun r ≡ true) (read_is (d t)) (started (d t));
-      unfinished = k.if3.false;
-      searchable = record { problem = problem_in (entry (d t)).args.file.now; holds = holding (first t) };
+      begins = subst⁻¹ (λ (r : Run). begun r ≡ true) (read_is (d t.before.before.before.before.before)) (started (d t.before.before.before.before.before));
+      unfinished = k.if-before-eq1.false;
+      searchable = record { problem = problem_in (entry (d t.before.before.before.before.before)).args.file.now; holds = holding (first t.before.before.before.before.before) };
     }
 
 write-requires : tie.Need-write-requires
@@ -111,33 +111,49 @@ write-requires c κs = search rules
 -- ---- from the last test back to the evaluation
 
 module _ (c : tie.After-write) where
-  abbrev e : tie.After-evaluate-next
+  abbrev e : tie.After-evaluate_next-after
   e = c.before.before
 
-  abbrev on : tie.Else3
+  abbrev on : tie.Else-before-eq1
   on = e.before.before.before.before
 
-  abbrev t : tie.After-known-told2
+  abbrev t : tie.In-Found
   t = on.before.before
 
   abbrev run : Run
   run = run_in (entry (d t)).args.run.now
 
   unfinished : run.finished ≡ 1 → ⊥
-  unfinished z = on.if3.left (ap (λ (r : Run). r.finished) (read_is (d t)) ∙ z)
+  unfinished z = on.if-before-eq1.false (ap (λ (r : Run). r.finished) (read_is (d t)) ∙ z)
 
-  next : run_of e.evaluate-next.result ≡ evaluated (problem_in (entry (d t)).args.file.now) run
-  next = e.evaluate-next.ensures.held (problem_in (entry (d t)).args.file.now) (holding (first t)) ∙ ap (evaluated (problem_in (entry (d t)).args.file.now)) (read_is (d t))
+  next : run_of e.evaluate_next-after.result ≡ evaluated (problem_in (entry (d t)).args.file.now) run
+  next = e.evaluate_next-after.ensures.held (problem_in (entry (d t)).args.file.now) (holding (first t)) ∙ ap (evaluated (problem_in (entry (d t)).args.file.now)) (read_is (d t))
 
-returns-5 : tie.Need-returns-5
+returns-5 : tie.Need-returns-then-after-eq1
 returns-5 c =
-    let w = c.before.before in
-    advance-last _ _ _ (started (d (t w))) (alike (d (t w))) (first (t w)).accepted (unfinished w) (next w) w.write.ensures c.if4.true
+    let w = c in
+    advance-last _ _ _ (started (d (t w.before.before))) (alike (d (t w.before.before))) (first (t w.before.before)).accepted (unfinished w.before.before) (next w.before.before) w.write.ensures c.if-after-eq1.true
 
-returns-6 : tie.Need-returns-6
+returns-6 : tie.Need-returns-else-after-eq1
 returns-6 c =
-    let w = c.before.before in
-    advance-more _ _ _ (started (d (t w))) (alike (d (t w))) (first (t w)).accepted (unfinished w) (next w) w.write.ensures c.if4.false
+    let w = c in
+    advance-more _ _ _ (started (d (t w.before.before))) (alike (d (t w.before.before))) (first (t w.before.before)).accepted (unfinished w.before.before) (next w.before.before) w.write.ensures c.if-after-eq1.false
 
-pub advance-spec : {M : Type 1} → statement M
-advance-spec = tie.close (tie.spec is-begun-requires returns read-requires same-bytes-requires returns-2 first-best-requires enum-known-first enum-known-first-2 returns-3 evaluate-next-requires write-requires returns-4 returns-5 returns-6)
+pub advance_spec : {M : Type 1} → statement M
+advance_spec =
+    tie.close
+    (tie.spec
+    is-begun-requires
+    returns
+    read-requires
+    same-bytes-requires
+    returns-2
+    first-best-requires
+    enum-known-first
+    enum-known-first-2
+    returns-3
+    evaluate-next-requires
+    write-requires
+    returns-4
+    returns-5
+    returns-6)

@@ -21,76 +21,76 @@ use Rattle.stepping.proofs.evaluate_next.Statement.{statement}
 use Rattle.stepping.proofs.evaluate_next.Tie as tie
 
 known : (s : tie.Start) → Fitting (run_of s.args.before)
-known s = fitting (run_of s.args.before) s.pre.begins
+known s = fitting (run_of s.args.before) s.requires.begins
 
-add-t25 : tie.Need-add-t25
-add-t25 c = let k = known c.before in omega (arith, k.evaluations, k.surplus, k.floor, target_small c.before.pre.searchable)
+add-t25 : tie.Need-overflow_add-best
+add-t25 c = let k = known c.before in omega (arith, k.evaluations, k.surplus, k.floor, target_small c.requires.searchable)
 
-cast-t26 : tie.Need-cast-t26
-cast-t26 c = let k = known c.before in omega (arith, k.evaluations, k.surplus, k.floor, target_small c.before.pre.searchable)
+cast-t26 : tie.Need-overflow_cast-start
+cast-t26 c = let k = known c.before in omega (arith, k.evaluations, k.surplus, k.floor, target_small c.requires.searchable)
 
-cast-t27 : tie.Need-cast-t27
-cast-t27 c = let k = known c.before in omega (arith, k.evaluations, k.surplus, k.floor, target_small c.before.pre.searchable)
+cast-t27 : tie.Need-overflow_cast-start-2
+cast-t27 c = let k = known c.before in omega (arith, k.evaluations, k.surplus, k.floor, target_small c.requires.searchable)
 
-width-at-requires : tie.Need-width-at-requires
+width-at-requires : tie.Need-width_at-requires
 width-at-requires c κs = (known c.before).evaluations
 
-cast-t28 : tie.Need-cast-t28
-cast-t28 c = let k = known c.before.before in omega (arith, k.evaluations, k.surplus, k.floor, target_small c.before.before.pre.searchable)
+cast-t28 : tie.Need-overflow_cast-start-3
+cast-t28 c = let k = known c.before.before in omega (arith, k.evaluations, k.surplus, k.floor, target_small c.requires.searchable)
 
-add-t29 : tie.Need-add-t29
-add-t29 c = let k = known c.before.before in omega (arith, k.evaluations, k.surplus, k.floor, target_small c.before.before.pre.searchable)
+add-t29 : tie.Need-overflow_add-start
+add-t29 c = let k = known c.before.before in omega (arith, k.evaluations, k.surplus, k.floor, target_small c.requires.searchable)
 
-slice-aggregate-search-from : tie.Need-slice-aggregate-search-from
+slice-aggregate-search-from : tie.Need-slice_bounds-search_from-end
 slice-aggregate-search-from c = search rules
 
-search-from-requires : tie.Need-search-from-requires
+search-from-requires : tie.Need-search_from-floor-requires
 search-from-requires c κs =
-    let s = c.before.before.before in
-    (s.pre.searchable, begins-at s.args.before (known s) s.pre.unfinished s.args.target _ c.before.width-at.ensures)
+    let s = c in
+    (s.requires.searchable, begins-at s.args.before (known s.before.before.before) s.requires.unfinished s.args.target _ c.width_at.ensures)
 
 -- ---- what the search was asked, and gave
 
-abbrev entry : tie.After-search-from → tie.Start
+abbrev entry : tie.After-search_from-floor → tie.Start
 entry c = c.before.before.before.before
 
 floor-before : (s : tie.Start) → to_z w64 s.args.before.floor ≡ pos s.args.before.floor
 floor-before s = to_z_pos w64 (omega (arith, (known s).floor))
 
-floor-fits : (c : tie.After-search-from) → SFits w64 c.search-from.result.floor
+floor-fits : (c : tie.After-search_from-floor) → SFits w64 c.search_from-floor.result.floor
 floor-fits c = search rules
 
-floor-after : (c : tie.After-search-from) → to_z w64 (of_z w64 c.search-from.result.floor) ≡ c.search-from.result.floor
+floor-after : (c : tie.After-search_from-floor) → to_z w64 (of_z w64 c.search_from-floor.result.floor) ≡ c.search_from-floor.result.floor
 floor-after c = to_z-of_z {w = w64} (floor-fits c)
 
-module _ (c : tie.After-search-from) (q : Problem) (h : let a = (entry c).args in Holding a.coefficients.now a.ends.now a.ranges.now a.n a.target q) where
-  evaluated-once : ((entry c).args.target ≤ c.search-from.result.best.net) × (run_of (numbers_from c.search-from.result (entry c).args.n (entry c).args.target (entry c).args.before.length) ≡ evaluated q (run_of (entry c).args.before))
-  evaluated-once = evaluates (entry c).args.before (known (entry c)) (entry c).pre.unfinished (from_start (entry c).args.before (entry c).args.target (floor-before (entry c)) c.before.before.width-at.ensures c.search-from.ensures) q h
+module _ (c : tie.After-search_from-floor) (q : Problem) (h : let a = (entry c).args in Holding a.coefficients.now a.ends.now a.ranges.now a.n a.target q) where
+  evaluated-once : ((entry c).args.target ≤ c.search_from-floor.result.best.net) × (run_of (numbers_from c.search_from-floor.result (entry c).args.n (entry c).args.target (entry c).args.before.length) ≡ evaluated q (run_of (entry c).args.before))
+  evaluated-once = evaluates (entry c).args.before (known (entry c)) (entry c).requires.unfinished (from_start (entry c).args.before (entry c).args.target (floor-before (entry c)) c.width_at.ensures c.search_from-floor.ensures) q h
 
-cast-t25 : tie.Need-cast-t25
+cast-t25 : tie.Need-overflow_cast-result
 cast-t25 c = search rules
 
-cast-t34 : tie.Need-cast-t34
+cast-t34 : tie.Need-overflow_cast-result-2
 cast-t34 c = search rules
 
 -- from the last struct that is taken apart back to the search
-abbrev made : tie.After-outputs2 → tie.After-search-from
+abbrev made : tie.After-outputs-2-1 → tie.After-search_from-floor
 made c = c.before.before.before.before
 
-sub-t35 : tie.Need-sub-t35
-sub-t35 c = let s = (entry (made c)).pre.searchable in (evaluated-once (made c) s.problem s.holds).0
+sub-t35 : tie.Need-overflow_sub-result
+sub-t35 c = let s = (entry (made c)).requires.searchable in (evaluated-once (made c) s.problem s.holds).0
 
-not_negative : (c : tie.After-search-from) → c.search-from.result.floor ≡ pos (natural c.search-from.result.floor)
+not_negative : (c : tie.After-search_from-floor) → c.search_from-floor.result.floor ≡ pos (natural c.search_from-floor.result.floor)
 not_negative c =
-    let s = (entry c).pre.searchable in
-    floor-kept (entry c).args.before (known (entry c)) (entry c).pre.unfinished (from_start (entry c).args.before (entry c).args.target (floor-before (entry c)) c.before.before.width-at.ensures c.search-from.ensures) s.problem s.holds
+    let s = (entry c).requires.searchable in
+    floor-kept (entry c).args.before (known (entry c)) (entry c).requires.unfinished (from_start (entry c).args.before (entry c).args.target (floor-before (entry c)) c.width_at.ensures c.search_from-floor.ensures) s.problem s.holds
 
-cast-t36 : tie.Need-cast-t36
+cast-t36 : tie.Need-overflow_cast-result-3
 cast-t36 c =
-    let small : SFits w64 (pos (natural (made c).search-from.result.floor)) = subst (SFits w64) (not_negative (made c)) (floor-fits (made c)) in
+    let small : SFits w64 (pos (natural (made c).search_from-floor.result.floor)) = subst (SFits w64) (not_negative (made c)) (floor-fits (made c)) in
     rw (floor-after (made c), not_negative (made c)) (tt, record { fits = omega (arith, small.sfits) })
 
-size : (c : tie.After-search-from) → nat_abs c.search-from.result.floor ≡ natural c.search-from.result.floor
+size : (c : tie.After-search_from-floor) → nat_abs c.search_from-floor.result.floor ≡ natural c.search_from-floor.result.floor
 size c = ap nat_abs (not_negative c)
 
 byte_flag : (b : Bool) → bool_byte b ≡ flag b
@@ -100,8 +100,8 @@ byte_flag false = refl
 returns : tie.Need-returns
 returns c = record { held = λ q h. rw (floor-after (made c), byte_flag, size (made c)) (evaluated-once (made c) q h).1 }
 
-pub evaluate-next-spec : {M : Type 1} → statement M
-evaluate-next-spec =
+pub evaluate_next_spec : {M : Type 1} → statement M
+evaluate_next_spec =
     tie.close
     (tie.spec
     add-t25

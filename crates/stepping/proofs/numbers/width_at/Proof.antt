@@ -5,12 +5,16 @@ use Rattle.stepping.specs.Runs.{width_at}
 use Rattle.stepping.proofs.numbers.width_at.Statement.{statement}
 use Rattle.stepping.proofs.numbers.width_at.Tie as tie
 
-shr-result : tie.Need-overflow-shr-result
+shr-result : tie.Need-overflow_shr-result
 shr-result c = search rules
 
 returns : tie.Need-returns
 unfolding width_at
 returns c = refl
 
-pub width-at-spec : {M : Type 1} → statement M
-width-at-spec = tie.close (tie.spec shr-result returns)
+pub width_at_spec : {M : Type 1} → statement M
+width_at_spec =
+    tie.close
+    (tie.spec
+    shr-result
+    returns)
