@@ -5,7 +5,7 @@ ghost use Rattle.std.specs.Prelude.{◌≡◌, ◌≤◌, length};
 ghost use Rattle.rules.specs.Lists.{over};
 ghost use Rattle.text.specs.Text.{printed};
 
-use libc::{STDERR_FILENO, STDIN_FILENO, STDOUT_FILENO};
+use std::io::{Print, Read};
 
 // How many bytes were read, and whether a read failed.
 #[derive(Clone, Copy)]
@@ -15,26 +15,26 @@ struct Input {
 }
 
 // Reads until `file` is full, the input ends or a read fails.
-fn read_input(file: &mut [u8]) -> Input
+fn read_input(from: &mut impl Read, file: &mut [u8]) -> Input
     ensures { result.length ≤ length file.old }
 {
     let mut at = 0;
     while at < file.len() {
-        let got = libc::read(STDIN_FILENO, &mut file[at..]);
-        if got < 0 {
-            return Input {
-                length: at,
-                failed: true,
-            };
+        match from.read(&mut file[at..]) {
+            Err(_) => {
+                return Input {
+                    length: at,
+                    failed: true,
+                };
+            }
+            Ok(0) => {
+                return Input {
+                    length: at,
+                    failed: false,
+                };
+            }
+            Ok(n) => at += n,
         }
-        let n = io::count(got, &file[at..]);
-        if n == 0 {
-            return Input {
-                length: at,
-                failed: false,
-            };
-        }
-        at += n;
     }
     Input {
         length: at,
@@ -52,20 +52,20 @@ fn answer(file: &[u8], out: &mut [u8]) -> usize
     text::write_text(out, answered, &reply)
 }
 
-fn complain(message: &[u8]) {
-    io::write_all(STDERR_FILENO, message);
+fn complain(to: &impl Print, message: &[u8]) {
+    let _ = to.write_all(message);
 }
 
-fn main() {
+fn main(rt: HostRuntime) {
     let mut file = [0u8; 1609];
-    let Input { length, failed } = read_input(&mut file);
+    let Input { length, failed } = read_input(&mut rt.stdin(), &mut file);
     if failed {
-        complain(b"standard input could not be read\n");
+        complain(&rt.stderr(), b"standard input could not be read\n");
         return;
     }
     let mut out = [0u8; 2048];
     let n = answer(&file[..length], &mut out);
-    if !io::write_all(STDOUT_FILENO, &out[..n]) {
-        complain(b"the answer could not be written\n");
+    if rt.write_all(&out[..n]).is_err() {
+        complain(&rt.stderr(), b"the answer could not be written\n");
     }
 }

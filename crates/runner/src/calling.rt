@@ -10,51 +10,52 @@ use judging::Judged;
 use modbus::Viewed;
 use rules::{Dispatched, Packed, Priced, Refusal, Unpacked};
 use sensitivity::Floored;
+use std::io::Print;
 
 // The refusal of a call that writes to a buffer, and whether the buffer kept its contents.
-fn print_refused(r: Refusal, kept: bool) {
-    refusal(r);
-    word(b" ");
-    rest(kept);
+fn print_refused(out: &impl Print, r: Refusal, kept: bool) {
+    refusal(out, r);
+    word(out, b" ");
+    rest(out, kept);
 }
 
 // The bytes that a call wrote, and the rest of its buffer.
-fn print_written(bytes: &[u8], length: usize) {
-    number(b"", length as u64);
-    word(b" ");
-    hexadecimal(bytes, length);
-    word(b" ");
-    rest(bytes_kept(bytes, length));
+fn print_written(out: &impl Print, bytes: &[u8], length: usize) {
+    number(out, b"", length as u64);
+    word(out, b" ");
+    hexadecimal(out, bytes, length);
+    word(out, b" ");
+    rest(out, bytes_kept(bytes, length));
 }
 
 // The reply's buffer is lent as far as there is room.
-fn dispatch(file: &[u8], room: usize, bytes: &mut [u8]) {
+fn dispatch(out: &impl Print, file: &[u8], room: usize, bytes: &mut [u8]) {
     let lent = least(room, bytes.len());
     fill_bytes(bytes);
     let answer = dispatching::dispatch(file, &mut bytes[..lent]);
     match answer {
-        Dispatched::Refused(r) => print_refused(r, bytes_kept(bytes, 0)),
-        Dispatched::Replied(length) => print_written(bytes, length),
+        Dispatched::Refused(r) => print_refused(out, r, bytes_kept(bytes, 0)),
+        Dispatched::Replied(length) => print_written(out, bytes, length),
     }
 }
 
-fn print_priced(dual: i64, covers: bool) {
-    signed(dual);
+fn print_priced(out: &impl Print, dual: i64, covers: bool) {
+    signed(out, dual);
     if covers {
-        word(b" covered\n");
+        word(out, b" covered\n");
     } else {
-        word(b" uncovered\n");
+        word(out, b" uncovered\n");
     }
 }
 
-fn price(file: &[u8], m: u32) {
+fn price(out: &impl Print, file: &[u8], m: u32) {
     let answer = pricing::price(file, m);
     match answer {
         Priced::Refused(r) => {
-            refusal(r);
-            word(b"\n");
+            refusal(out, r);
+            word(out, b"\n");
         }
-        Priced::Valued { dual, covers } => print_priced(dual, covers),
+        Priced::Valued { dual, covers } => print_priced(out, dual, covers),
     }
 }
 
@@ -72,100 +73,115 @@ fn read_rows(given: &[u8], rows: &mut [u32]) -> usize
 }
 
 // The file's buffer is lent as far as there is room.
-fn pack(demand: u32, given: &[u8], room: usize, bytes: &mut [u8], numbers: &mut [u32]) {
+fn pack(
+    out: &impl Print,
+    demand: u32,
+    given: &[u8],
+    room: usize,
+    bytes: &mut [u8],
+    numbers: &mut [u32],
+) {
     let lent = least(room, bytes.len());
     let count = read_rows(given, numbers);
     fill_bytes(bytes);
     let answer = packing::pack(demand, &numbers[..count], &mut bytes[..lent]);
     match answer {
-        Packed::Refused(r) => print_refused(r, bytes_kept(bytes, 0)),
-        Packed::Written(length) => print_written(bytes, length),
+        Packed::Refused(r) => print_refused(out, r, bytes_kept(bytes, 0)),
+        Packed::Written(length) => print_written(out, bytes, length),
     }
 }
 
-fn print_unpacked(demand: u32, count: u32, rows: &[u32]) {
-    number(b"", demand as u64);
-    number(b" ", count as u64);
+fn print_unpacked(out: &impl Print, demand: u32, count: u32, rows: &[u32]) {
+    number(out, b"", demand as u64);
+    number(out, b" ", count as u64);
     let written = 19 * count as usize;
-    decimals(rows, written);
-    word(b" ");
-    rest(numbers_kept(rows, written));
+    decimals(out, rows, written);
+    word(out, b" ");
+    rest(out, numbers_kept(rows, written));
 }
 
 // The rows' list is lent as far as there is room.
-fn unpack(file: &[u8], room: usize, numbers: &mut [u32]) {
+fn unpack(out: &impl Print, file: &[u8], room: usize, numbers: &mut [u32]) {
     let lent = least(room, numbers.len());
     fill_numbers(numbers);
     let answer = unpacking::unpack(file, &mut numbers[..lent]);
     match answer {
-        Unpacked::Refused(r) => print_refused(r, numbers_kept(numbers, 0)),
-        Unpacked::Read { demand, count } => print_unpacked(demand, count, numbers),
+        Unpacked::Refused(r) => print_refused(out, r, numbers_kept(numbers, 0)),
+        Unpacked::Read { demand, count } => print_unpacked(out, demand, count, numbers),
     }
 }
 
 // The bytes before `at` are the reply, the others the request. The answer's buffer is lent as far as there is room.
-fn view(given: &[u8], at: usize, room: usize, bytes: &mut [u8]) {
+fn view(out: &impl Print, given: &[u8], at: usize, room: usize, bytes: &mut [u8]) {
     let end = least(at, given.len());
     let lent = least(room, bytes.len());
     fill_bytes(bytes);
     let answer = modbus::view(&given[..end], &given[end..], &mut bytes[..lent]);
     match answer {
-        Viewed::Refused(r) => print_refused(r, bytes_kept(bytes, 0)),
-        Viewed::Answered(length) => print_written(bytes, length),
+        Viewed::Refused(r) => print_refused(out, r, bytes_kept(bytes, 0)),
+        Viewed::Answered(length) => print_written(out, bytes, length),
     }
 }
 
 // Prints a judgement.
-fn print_judged(cost: u64, surplus: u64, distance: u64) {
-    word(b"accepted");
-    number(b" ", cost);
-    number(b" ", surplus);
-    number(b" ", distance);
-    word(b"\n");
+fn print_judged(out: &impl Print, cost: u64, surplus: u64, distance: u64) {
+    word(out, b"accepted");
+    number(out, b" ", cost);
+    number(out, b" ", surplus);
+    number(out, b" ", distance);
+    word(out, b"\n");
 }
 
 // The first `at` bytes are the file, the others the outputs, 4 bytes each.
-fn judge(given: &[u8], at: usize, numbers: &mut [u32]) {
+fn judge(out: &impl Print, given: &[u8], at: usize, numbers: &mut [u32]) {
     let end = least(at, given.len());
     let count = read_rows(&given[end..], numbers);
     let answer = judging::judge(&given[..end], &numbers[..count]);
     match answer {
         Judged::Refused(r) => {
-            refusal(r);
-            word(b"\n");
+            refusal(out, r);
+            word(out, b"\n");
         }
-        Judged::NotAccepted => word(b"not accepted\n"),
+        Judged::NotAccepted => word(out, b"not accepted\n"),
         Judged::Accepted {
             cost,
             surplus,
             distance,
-        } => print_judged(cost, surplus, distance),
+        } => print_judged(out, cost, surplus, distance),
     }
 }
 
 // The floors that a call wrote, and the rest of their list.
-fn print_floors(integers: &[i64], count: usize) {
-    number(b"", count as u64);
-    signed_decimals(integers, count);
-    word(b" ");
-    rest(integers_kept(integers, count));
+fn print_floors(out: &impl Print, integers: &[i64], count: usize) {
+    number(out, b"", count as u64);
+    signed_decimals(out, integers, count);
+    word(out, b" ");
+    rest(out, integers_kept(integers, count));
 }
 
 // The first `at` bytes are the file, the others the demands, 4 bytes each. The floors' list is lent as far as there is room.
-fn floors(given: &[u8], at: usize, room: usize, numbers: &mut [u32], integers: &mut [i64]) {
+fn floors(
+    out: &impl Print,
+    given: &[u8],
+    at: usize,
+    room: usize,
+    numbers: &mut [u32],
+    integers: &mut [i64],
+) {
     let end = least(at, given.len());
     let count = read_rows(&given[end..], numbers);
     let lent = least(room, integers.len());
     fill_integers(integers);
     let answer = sensitivity::floors(&given[..end], &numbers[..count], &mut integers[..lent]);
     match answer {
-        Floored::Refused(r) => print_refused(r, integers_kept(integers, 0)),
-        Floored::Written(written) => print_floors(integers, written),
+        Floored::Refused(r) => print_refused(out, r, integers_kept(integers, 0)),
+        Floored::Written(written) => print_floors(out, integers, written),
     }
 }
 
 // The call that the record names, on what it gives: its name and its answer. Those from 8 on are operations on the run.
 pub fn run(
+    out: &impl Print,
     call: u16,
     argument: u32,
     room: usize,
@@ -177,27 +193,27 @@ pub fn run(
     held: &mut [u8; 1608],
 ) {
     if call == 1 {
-        word(b"dispatch ");
-        dispatch(given, room, bytes);
+        word(out, b"dispatch ");
+        dispatch(out, given, room, bytes);
     } else if call == 2 {
-        word(b"price ");
-        price(given, argument);
+        word(out, b"price ");
+        price(out, given, argument);
     } else if call == 3 {
-        word(b"pack ");
-        pack(argument, given, room, bytes, numbers);
+        word(out, b"pack ");
+        pack(out, argument, given, room, bytes, numbers);
     } else if call == 4 {
-        word(b"unpack ");
-        unpack(given, room, numbers);
+        word(out, b"unpack ");
+        unpack(out, given, room, numbers);
     } else if call == 5 {
-        word(b"view ");
-        view(given, argument as usize, room, bytes);
+        word(out, b"view ");
+        view(out, given, argument as usize, room, bytes);
     } else if call == 6 {
-        word(b"judge ");
-        judge(given, argument as usize, numbers);
+        word(out, b"judge ");
+        judge(out, given, argument as usize, numbers);
     } else if call == 7 {
-        word(b"floors ");
-        floors(given, argument as usize, room, numbers, integers);
+        word(out, b"floors ");
+        floors(out, given, argument as usize, room, numbers, integers);
     } else {
-        running::operate(call, given, run, held);
+        running::operate(out, call, given, run, held);
     }
 }

@@ -2,17 +2,33 @@
 // tests/second_solver/README.md has the format of the input; the expected output is what the second solver wrote.
 #![tactic(auto)]
 
-ghost use Rattle.std.specs.Prelude.{◌≡◌, length};
+ghost use Rattle.std.specs.Prelude.{◌≡◌, ◌≤◌, length};
 
 mod calling;
 mod printing;
 mod running;
 
-use libc::STDIN_FILENO;
 use printing::word;
+use std::io::{Print, Read};
+
+// Reads until `buf` is full, the input ends or a read fails, and gives how many bytes it put at the start of `buf`.
+fn read_full(from: &mut impl Read, buf: &mut [u8]) -> usize
+    ensures { result ≤ length buf.new }
+{
+    let mut done = 0;
+    while done < buf.len() {
+        match from.read(&mut buf[done..]) {
+            Err(_) | Ok(0) => return done,
+            Ok(n) => done += n,
+        }
+    }
+    done
+}
 
 // The next record of the input; false where the input ends or is not in the format.
 fn run_record(
+    from: &mut impl Read,
+    out: &impl Print,
     given: &mut [u8],
     bytes: &mut [u8],
     numbers: &mut [u32],
@@ -21,7 +37,7 @@ fn run_record(
     held: &mut [u8; 1608],
 ) -> bool {
     let mut head = [0u8; 10];
-    let got = io::read_full(STDIN_FILENO, &mut head);
+    let got = read_full(from, &mut head);
     if got < 10 {
         return false;
     }
@@ -32,11 +48,12 @@ fn run_record(
     if length > given.len() {
         return false;
     }
-    let read = io::read_full(STDIN_FILENO, &mut given[..length]);
+    let read = read_full(from, &mut given[..length]);
     if read < length {
         return false;
     }
     calling::run(
+        out,
         call,
         argument,
         room,
@@ -53,6 +70,8 @@ fn run_record(
 // That many records of the input; false where it is not in the format.
 fn run_records(
     records: u32,
+    from: &mut impl Read,
+    out: &impl Print,
     given: &mut [u8],
     bytes: &mut [u8],
     numbers: &mut [u32],
@@ -63,7 +82,7 @@ fn run_records(
     let mut left = records;
     while left > 0 {
         left -= 1;
-        if !run_record(given, bytes, numbers, integers, run, held) {
+        if !run_record(from, out, given, bytes, numbers, integers, run, held) {
             return false;
         }
     }
@@ -84,18 +103,21 @@ fn integer_buffer() -> [i64; 1024]
     [0; 1024]
 }
 
-fn main() {
+fn main(rt: HostRuntime) {
+    let mut from = rt.stdin();
     let mut head = [0u8; 4];
-    io::read_full(STDIN_FILENO, &mut head);
+    read_full(&mut from, &mut head);
     let records = fields::read_u32(&head, 0);
-    let mut given = io::buffer();
-    let mut bytes = io::buffer();
+    let mut given = [0u8; 4096];
+    let mut bytes = [0u8; 4096];
     let mut numbers = number_buffer();
     let mut integers = integer_buffer();
     let mut run = [0u64; 41];
     let mut held = [0u8; 1608];
     if !run_records(
         records,
+        &mut from,
+        &rt,
         &mut given,
         &mut bytes,
         &mut numbers,
@@ -103,6 +125,6 @@ fn main() {
         &mut run,
         &mut held,
     ) {
-        word(b"the input is not in the runner's format\n");
+        word(&rt, b"the input is not in the runner's format\n");
     }
 }

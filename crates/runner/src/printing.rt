@@ -1,22 +1,22 @@
 // Words, numbers and whole buffers on standard output.
 ghost use Rattle.std.specs.Prelude.{◌≤◌};
 
-use libc::STDOUT_FILENO;
 use rules::Refusal;
+use std::io::Print;
 
-pub fn word(text: &[u8]) {
-    io::write_all(STDOUT_FILENO, text);
+pub fn word(out: &impl Print, text: &[u8]) {
+    let _ = out.write_all(text);
 }
 
 // A word, then a number in decimal.
-pub fn number(text: &[u8], n: u64) {
-    word(text);
-    io::print_decimal(STDOUT_FILENO, n);
+pub fn number(out: &impl Print, text: &[u8], n: u64) {
+    word(out, text);
+    let _ = out.print(n);
 }
 
 // The number of a refusal.
-pub fn refusal(r: Refusal) {
-    number(b"refused ", refusal_number::number(r) as u64);
+pub fn refusal(out: &impl Print, r: Refusal) {
+    number(out, b"refused ", refusal_number::number(r) as u64);
 }
 
 // A signed number without its sign.
@@ -25,24 +25,24 @@ fn magnitude(n: i64) -> u64 {
 }
 
 // A signed number in decimal.
-pub fn signed(n: i64) {
+pub fn signed(out: &impl Print, n: i64) {
     if n < 0 {
-        word(b"-");
+        word(out, b"-");
     }
-    number(b"", magnitude(n));
+    number(out, b"", magnitude(n));
 }
 
 // The end of a line: whether the rest of the buffer kept its contents.
-pub fn rest(kept: bool) {
+pub fn rest(out: &impl Print, kept: bool) {
     if kept {
-        word(b"kept\n");
+        word(out, b"kept\n");
     } else {
-        word(b"touched\n");
+        word(out, b"touched\n");
     }
 }
 
-fn print_byte(b: u8) {
-    io::print_hex(STDOUT_FILENO, b as u64, 2);
+fn print_byte(out: &impl Print, b: u8) {
+    let _ = print!(out; "{b:02x}");
 }
 
 pub fn least(a: usize, b: usize) -> usize
@@ -53,36 +53,36 @@ pub fn least(a: usize, b: usize) -> usize
 }
 
 // The first `count` bytes in hexadecimal.
-pub fn hexadecimal(bytes: &[u8], count: usize) {
+pub fn hexadecimal(out: &impl Print, bytes: &[u8], count: usize) {
     let end = least(count, bytes.len());
     let mut i = 0;
     while i < end {
-        print_byte(bytes[i]);
+        print_byte(out, bytes[i]);
         i += 1;
     }
 }
 
-fn print_word(n: u32) {
-    number(b" ", n as u64);
+fn print_word(out: &impl Print, n: u32) {
+    number(out, b" ", n as u64);
 }
 
 // The first `count` numbers in decimal, with a space before each.
-pub fn decimals(numbers: &[u32], count: usize) {
+pub fn decimals(out: &impl Print, numbers: &[u32], count: usize) {
     let end = least(count, numbers.len());
     let mut i = 0;
     while i < end {
-        print_word(numbers[i]);
+        print_word(out, numbers[i]);
         i += 1;
     }
 }
 
 // The first `count` integers in decimal, with a space before each.
-pub fn signed_decimals(integers: &[i64], count: usize) {
+pub fn signed_decimals(out: &impl Print, integers: &[i64], count: usize) {
     let end = least(count, integers.len());
     let mut i = 0;
     while i < end {
-        word(b" ");
-        signed(integers[i]);
+        word(out, b" ");
+        signed(out, integers[i]);
         i += 1;
     }
 }

@@ -2,6 +2,7 @@
 ghost use Rattle.std.specs.Prelude.{◌≤◌};
 
 use crate::printing::{least, number, refusal, word};
+use std::io::Print;
 use stepping::{Advanced, Asked, Started, State};
 
 // The numbers that are given, 8 bytes each, at the start of the run.
@@ -31,7 +32,7 @@ fn widened(byte: u8) -> u64
 }
 
 // The sum of the held bytes, and the sum of the sums of the first, the first two and so on. A wrong byte changes both.
-fn print_held(held: &[u8; 1608]) {
+fn print_held(out: &impl Print, held: &[u8; 1608]) {
     let mut sum: u64 = 0;
     let mut sums: u64 = 0;
     let mut i = 0;
@@ -40,50 +41,50 @@ fn print_held(held: &[u8; 1608]) {
         sums += sum;
         i += 1;
     }
-    number(b" ", sum);
-    number(b" ", sums);
+    number(out, b" ", sum);
+    number(out, b" ", sums);
 }
 
-fn start(file: &[u8], run: &mut [u64; 41], held: &mut [u8; 1608]) {
+fn start(out: &impl Print, file: &[u8], run: &mut [u64; 41], held: &mut [u8; 1608]) {
     let answer = stepping::start(run, held, file);
     match answer {
-        Started::Begun => word(b"begun"),
-        Started::Refused(r) => refusal(r),
+        Started::Begun => word(out, b"begun"),
+        Started::Refused(r) => refusal(out, r),
     }
 }
 
-fn advance(file: &[u8], run: &mut [u64; 41], held: &[u8; 1608]) {
+fn advance(out: &impl Print, file: &[u8], run: &mut [u64; 41], held: &[u8; 1608]) {
     let answer = stepping::advance(run, held, file);
     match answer {
-        Advanced::Unfinished => word(b"unfinished"),
-        Advanced::Finished => word(b"finished"),
-        Advanced::NotStarted => word(b"not started"),
-        Advanced::Refused(r) => refusal(r),
+        Advanced::Unfinished => word(out, b"unfinished"),
+        Advanced::Finished => word(out, b"finished"),
+        Advanced::NotStarted => word(out, b"not started"),
+        Advanced::Refused(r) => refusal(out, r),
     }
 }
 
-fn print_state(state: State) {
+fn print_state(out: &impl Print, state: State) {
     match state {
-        State::NotStarted => word(b"not started"),
-        State::Unfinished => word(b"unfinished"),
-        State::Finished => word(b"finished"),
+        State::NotStarted => word(out, b"not started"),
+        State::Unfinished => word(out, b"unfinished"),
+        State::Finished => word(out, b"finished"),
     }
 }
 
-fn print_output(output: u16) {
-    number(b" ", output as u64);
+fn print_output(out: &impl Print, output: u16) {
+    number(out, b" ", output as u64);
 }
 
 // All outputs in decimal, with a space before each.
-fn print_outputs(outputs: [u16; 32]) {
+fn print_outputs(out: &impl Print, outputs: [u16; 32]) {
     let mut i = 0;
     while i < 32 {
-        print_output(outputs[i]);
+        print_output(out, outputs[i]);
         i += 1;
     }
 }
 
-fn ask(run: &[u64; 41]) {
+fn ask(out: &impl Print, run: &[u64; 41]) {
     let Asked {
         state,
         count,
@@ -93,44 +94,50 @@ fn ask(run: &[u64; 41]) {
         surplus,
         outputs,
     } = stepping::ask(run);
-    print_state(state);
-    print_output(count);
-    print_output(evaluations);
-    number(b" ", cost);
-    number(b" ", gap);
-    number(b" ", surplus);
-    print_outputs(outputs);
+    print_state(out, state);
+    print_output(out, count);
+    print_output(out, evaluations);
+    number(out, b" ", cost);
+    number(out, b" ", gap);
+    number(out, b" ", surplus);
+    print_outputs(out, outputs);
 }
 
 // All numbers of the run in decimal, with a space before each.
-fn print_run(run: &[u64; 41]) {
+fn print_run(out: &impl Print, run: &[u64; 41]) {
     let mut i = 0;
     while i < 41 {
-        number(b" ", run[i]);
+        number(out, b" ", run[i]);
         i += 1;
     }
-    word(b"\n");
+    word(out, b"\n");
 }
 
 // The operation that the record names: its name, its answer and the run.
-pub fn operate(call: u16, given: &[u8], run: &mut [u64; 41], held: &mut [u8; 1608]) {
+pub fn operate(
+    out: &impl Print,
+    call: u16,
+    given: &[u8],
+    run: &mut [u64; 41],
+    held: &mut [u8; 1608],
+) {
     if call == 8 {
-        word(b"put");
+        word(out, b"put");
         put(given, run);
         hold(given, held);
-        print_held(held);
+        print_held(out, held);
     } else if call == 9 {
-        word(b"start ");
-        start(given, run, held);
-        print_held(held);
+        word(out, b"start ");
+        start(out, given, run, held);
+        print_held(out, held);
     } else if call == 10 {
-        word(b"advance ");
-        advance(given, run, held);
+        word(out, b"advance ");
+        advance(out, given, run, held);
     } else if call == 11 {
-        word(b"ask ");
-        ask(run);
+        word(out, b"ask ");
+        ask(out, run);
     } else {
-        word(b"unknown call");
+        word(out, b"unknown call");
     }
-    print_run(run);
+    print_run(out, run);
 }

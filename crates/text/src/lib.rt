@@ -13,7 +13,8 @@ fn put_word(text: &mut [u8], at: usize, word: &[u8]) -> usize
     requires { at + length word.now ≤ length text.old }
     ensures { Put text.old at word.now text.new result }
 {
-    at + bytes::copy(word, &mut text[at..])
+    text[at..at + word.len()].copy_from_slice(word);
+    at + word.len()
 }
 
 // The digits of `n / 10`, if there are any, then the last digit. A number has at most 20.
