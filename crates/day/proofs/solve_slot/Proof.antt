@@ -13,7 +13,7 @@ decode-with-requires : tie.Need-decode-with-requires
 decode-with-requires c κs = c.before.before.before.before.requires.given
 
 returns : tie.Need-returns
-returns c = undecoded (entry c.before).requires c.before.decode-with.ensures (not-true _ c.if1.true) _
+returns c = undecoded (entry c.before).requires c.before.decode-with.ensures (c.if1.true) _
 
 mul-solve-held : tie.Need-overflow-mul-solve-held
 mul-solve-held c = search rules
@@ -21,13 +21,13 @@ mul-solve-held c = search rules
 solve-held-requires : tie.Need-solve-held-requires
 solve-held-requires c κs =
     let e = c.before.before.before in
-    searchable (entry e.before).requires e.before.decode-with.ensures (not-false _ e.if1.false)
+    searchable (entry e.before).requires e.before.decode-with.ensures (e.if1.false)
 
 returns-2 : tie.Need-returns-2
 returns-2 c =
     let h = c.before in
     let e = h.before.before.before.before in
-    solved (entry e.before).requires e.before.decode-with.ensures (not-false _ e.if1.false) h.solve-held.ensures
+    solved (entry e.before).requires e.before.decode-with.ensures (e.if1.false) h.solve-held.ensures
 
 pub solve-slot-spec : {M : Type 1} → statement M
 solve-slot-spec = tie.close (tie.spec decode-with-requires returns mul-solve-held solve-held-requires returns-2)

@@ -55,7 +55,7 @@ module _ (c : tie.In-Found) where
   abbrev cost : ℕ
   cost = c.first-in-Found-1.given.0.1.1.0
 
-  first : let l = d.first_best-first.new in let v = c.first-in-Found-1.given.0 in First (entry d).args.file.now l.1.0 l.1.1.0 l.1.1.1.0 l.1.1.1.1.0 v.0 v.1.0 v.1.1.0 v.1.1.1.0
+  first : let l = d.first_best-first.new in let v = c.in-Found in First (entry d).args.file.now l.coefficients l.ends l.ranges l.outputs v.count v.target v.cost v.net
   first = first_found _ _ _ _ _ c.in-Found.is d.first_best-first.ensures
 
 add-dearer : tie.Need-overflow_add-dearer

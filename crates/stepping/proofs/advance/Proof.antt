@@ -70,7 +70,7 @@ abbrev entry : tie.After-first_best-first → tie.Start
 entry c = origin (begun-at (passed c).before)
 
 alike : (c : tie.After-first_best-first) → same (held (entry c).args.run.now (entry c).args.held.now) (entry c).args.file.now ≡ true
-alike c = sym (compared (passed c).before) ∙ not-false _ (passed c).if-not-same_bytes.false
+alike c = sym (compared (passed c).before) ∙ (passed c).if-not-same_bytes.false
 
 started : (c : tie.After-first_best-first) → begun (run_in (entry c).args.run.now) ≡ true
 started c = begins (begun-at (passed c).before)
@@ -87,7 +87,7 @@ module _ (c : tie.In-Found) where
   abbrev d : tie.After-first_best-first
   d = c.before
 
-  first : let l = d.first_best-first.new in let v = c.first-in-Found-1.given.0 in First (entry d).args.file.now l.1.0 l.1.1.0 l.1.1.1.0 l.1.1.1.1.0 v.0 v.1.0 v.1.1.0 v.1.1.1.0
+  first : let l = d.first_best-first.new in let v = c.in-Found in First (entry d).args.file.now l.coefficients l.ends l.ranges l.outputs v.count v.target v.cost v.net
   first = first_found _ _ _ _ _ c.in-Found.is d.first_best-first.ensures
 
 returns-3 : tie.Need-returns-then-before-eq1

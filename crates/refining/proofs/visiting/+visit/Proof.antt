@@ -113,7 +113,7 @@ module _ (t : ℕ) where
   under e = e.before.before.before.if1.left
 
   seen : (p : Passed) → (evaluation p).evaluate-node.result.seen ≡ true
-  seen p = not-false _ p.if2.left
+  seen p = p.if2.left
 
   few : (s : Start) → s.args.l.count ≤ 32
   few s = s.pre.1.held.node.few
@@ -199,7 +199,7 @@ module _ (t : ℕ) where
   visit-returns-2 c =
       let e = c.before.before in
       let s = entry e in
-      (refl, visits-closed s.args.l s.args.left s.args.x s.args.s s.args.best.now (under e) e.evaluate-node.ensures (not-true _ c.if2.taken))
+      (refl, visits-closed s.args.l s.args.left s.args.x s.args.s s.args.best.now (under e) e.evaluate-node.ensures (c.if2.taken))
 
   visit-with-floor-requires-2 : visit-lts.Need-with-floor-requires-2 (claims t) (visit-at t) visit.Post
   visit-with-floor-requires-2 c κs = search rules

@@ -16,8 +16,8 @@ decreases-loop list₀ outputs i₀ list i = 32 - i
 
 loop-holds : tie.Need-loop-i-init invariant-loop decreases-loop
 loop-holds c =
-    let outputs : length c.args.t2 ≡ 32 = search rules in
-    (c.requires, copying_starts c.args.list.now 0 c.args.t2 (omega (arith, c.requires)))
+    let outputs : length c.args.outputs ≡ 32 = search rules in
+    (c.requires, copying_starts c.args.list.now 0 c.args.outputs (omega (arith, c.requires)))
 
 mul-list : tie.Need-offset_bounds-outputs-i invariant-loop decreases-loop
 mul-list c = omega arith
@@ -44,8 +44,8 @@ loop-again : tie.Need-loop-i-preserved invariant-loop decreases-loop
 loop-again c =
     let l = c.loop-i in
     let a = c.args in
-    let outputs : length a.t2 ≡ 32 = search rules in
-    (length-set l.list l.i (get_or a.t2 l.i 0) ∙ l.invariant.0, copying_more a.list.now 0 a.t2 l.invariant.1 (omega arith) refl (omega arith))
+    let outputs : length a.outputs ≡ 32 = search rules in
+    (length-set l.list l.i (get_or a.outputs l.i 0) ∙ l.invariant.0, copying_more a.list.now 0 a.outputs l.invariant.1 (omega arith) refl (omega arith))
 
 same_length : tie.Need-shape_of-list invariant-loop decreases-loop
 same_length c = omega (arith, c.loop-i.invariant.0, c.requires)
@@ -53,8 +53,8 @@ same_length c = omega (arith, c.loop-i.invariant.0, c.requires)
 returns : tie.Need-returns invariant-loop decreases-loop
 returns c =
     let a = c in
-    let outputs : length a.args.t2 ≡ 32 = search rules in
-    copying_ends a.args.list.now 0 a.args.t2 c.loop-i.invariant.1 (omega arith) (omega (arith, a.requires))
+    let outputs : length a.args.outputs ≡ 32 = search rules in
+    copying_ends a.args.list.now 0 a.args.outputs c.loop-i.invariant.1 (omega arith) (omega (arith, a.requires))
 
 pub write_outputs_spec : {M : Type 1} → statement M
 write_outputs_spec =

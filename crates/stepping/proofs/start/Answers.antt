@@ -1,0 +1,33 @@
+-- `stepping::start` meets its contract: a case that step 1 refuses leaves the run as it was; one that it accepts begins a run.
+use native.Mathlib.Omega.{arith}
+use Prim.Native.Nat.{ℕ}
+use mathlib.Core.Path.{◌≡◌, ap, ◌∙◌}
+use mathlib.Core.List.{List, ◌++◌}
+use lib.ListN.{length, drop}
+use lib.Seq.{take-length}
+use Rattle.rules.proofs.Demand3.{case-accepted}
+use Rattle.rules.proofs.Encoding.SoundFile.{accepted-length}
+use borrow.Author.Rules.{rules}
+use Rattle.evaluation.specs.Clauses.{First}
+use Rattle.evaluation.proofs.Covering.{first_found, first-refused}
+use Rattle.stepping.proofs.Endings.{first-covers, start-refused, start-begun}
+use Rattle.stepping.proofs.start.Goals as goal
+
+-- ---- what step 1 told
+
+pub overflow_sub-net : goal.overflow_sub-net
+overflow_sub-net c = first-covers c.in-Found.ensures
+
+pub slice_bounds-copy_from_slice-end : goal.slice_bounds-copy_from_slice-end
+slice_bounds-copy_from_slice-end c =
+    let f = c.in-Found.ensures in
+    omega (arith, (accepted-length _ (case-accepted _ f.accepted).0).1)
+
+pub returns-in-Refused : goal.returns-in-Refused
+returns-in-Refused c = start-refused _ _ _ _ c.in-Refused.ensures
+
+pub returns-in-Found : goal.returns-in-Found
+returns-in-Found c =
+    let file = c.args.file.now in
+    let held = c.args.held.now in
+    start-begun _ _ _ c.in-Found.ensures c.first_outputs-outputs.ensures c.write.ensures (rw c.copy_from_slice.ensures.after)
