@@ -6,20 +6,20 @@ use Rattle.answering.proofs.Telling.{one_written}
 use Rattle.answering.proofs.tell_advanced.Statement.{statement}
 use Rattle.answering.proofs.tell_advanced.Tie as tie
 
-returns : tie.Need-returns
-returns c = let s = c.before.before in rw c.enum_told.given.1 (refl, one_written s.args.answers.now (pos 1) s.requires)
+returns : tie.Need-returns-in-Unfinished
+returns c = let s = c in rw c.in-Unfinished.is (refl, one_written s.args.answers.now (pos 1) s.requires)
 
-returns-2 : tie.Need-returns-2
-returns-2 c = let s = c.before.before in rw c.enum-told2.given.1 (refl, one_written s.args.answers.now (pos 2) s.requires)
+returns-2 : tie.Need-returns-in-Finished
+returns-2 c = let s = c in rw c.in-Finished.is (refl, one_written s.args.answers.now (pos 2) s.requires)
 
-returns-3 : tie.Need-returns-3
-returns-3 c = let s = c.before.before in rw c.enum-told3.given.1 (refl, one_written s.args.answers.now (pos 0) s.requires)
+returns-3 : tie.Need-returns-in-NotStarted
+returns-3 c = let s = c in rw c.in-NotStarted.is (refl, one_written s.args.answers.now (pos 0) s.requires)
 
-returns-4 : tie.Need-returns-4
-returns-4 c = let e = c.before.before.a.given.1 in rw e (c.number.ensures, refl)
+returns-4 : tie.Need-returns-in-Refused
+returns-4 c = let e = c.in-Refused.is in rw e (c.number.ensures, refl)
 
-pub tell-advanced-spec : {M : Type 1} → statement M
-tell-advanced-spec =
+pub tell_advanced_spec : {M : Type 1} → statement M
+tell_advanced_spec =
     tie.close
     (tie.spec
     (λ c. search rules)

@@ -5,8 +5,15 @@ use Rattle.answering.specs.Answers.{number_of_started}
 use Rattle.answering.proofs.tell_started.Statement.{statement}
 use Rattle.answering.proofs.tell_started.Tie as tie
 
-returns-2 : tie.Need-returns-2
-returns-2 c = c.number.ensures ∙ sym (ap number_of_started c.before.before.s.given.1)
+returns-2 : tie.Need-returns-in-Refused
+returns-2 c = c.number.ensures ∙ sym (ap number_of_started c.in-Refused.is)
 
-pub tell-started-spec : {M : Type 1} → statement M
-tell-started-spec = tie.close (tie.spec (λ c. search rules) (λ c. search rules) (λ c κs. search rules) (λ c. search rules) returns-2)
+pub tell_started_spec : {M : Type 1} → statement M
+tell_started_spec =
+    tie.close
+    (tie.spec
+    (λ c. search rules)
+    (λ c. search rules)
+    (λ c κs. search rules)
+    (λ c. search rules)
+    returns-2)

@@ -6,28 +6,35 @@ use Rattle.day.proofs.solve_slot.Statement.{statement}
 use Rattle.day.proofs.solve_slot.Tie as tie
 
 -- from the decoding back to the entry
-abbrev entry : tie.After-decode-with → tie.Start
+abbrev entry : tie.After-decode_with → tie.Start
 entry d = d.before.before.before.before.before
 
-decode-with-requires : tie.Need-decode-with-requires
-decode-with-requires c κs = c.before.before.before.before.requires.given
+decode-with-requires : tie.Need-decode_with-requires
+decode-with-requires c κs = c.requires.given
 
-returns : tie.Need-returns
-returns c = undecoded (entry c.before).requires c.before.decode-with.ensures (c.if1.true) _
+returns : tie.Need-returns-then-not-decode_with
+returns c = undecoded (entry c.before).requires c.decode_with.ensures (c.if-not-decode_with.true) _
 
-mul-solve-held : tie.Need-overflow-mul-solve-held
+mul-solve-held : tie.Need-overflow_mul-demand
 mul-solve-held c = search rules
 
-solve-held-requires : tie.Need-solve-held-requires
+solve-held-requires : tie.Need-solve_held-s-requires
 solve-held-requires c κs =
-    let e = c.before.before.before in
-    searchable (entry e.before).requires e.before.decode-with.ensures (e.if1.false)
+    let e = c in
+    searchable (entry e.before.before.before.before).requires e.decode_with.ensures (e.if-not-decode_with.false)
 
-returns-2 : tie.Need-returns-2
+returns-2 : tie.Need-returns
 returns-2 c =
-    let h = c.before in
-    let e = h.before.before.before.before in
-    solved (entry e.before).requires e.before.decode-with.ensures (e.if1.false) h.solve-held.ensures
+    let h = c in
+    let e = h in
+    solved (entry e.before.before.before.before.before.before).requires e.decode_with.ensures (e.if-not-decode_with.false) h.solve_held-s.ensures
 
-pub solve-slot-spec : {M : Type 1} → statement M
-solve-slot-spec = tie.close (tie.spec decode-with-requires returns mul-solve-held solve-held-requires returns-2)
+pub solve_slot_spec : {M : Type 1} → statement M
+solve_slot_spec =
+    tie.close
+    (tie.spec
+    decode-with-requires
+    returns
+    mul-solve-held
+    solve-held-requires
+    returns-2)
