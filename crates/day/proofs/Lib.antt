@@ -1,4 +1,3 @@
-pub mod Again
 pub mod Records
 pub mod OneSlot
 pub mod Solving

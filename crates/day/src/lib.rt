@@ -243,7 +243,7 @@ fn slot_on_histories(
     histories: &mut [History],
 ) -> u64
     requires { TurnAsks file.now demands.now k n (length trace.old) histories.old }
-    ensures { (turned file.now demands.now k n (record { trace = trace.entry.now; histories = histories.old; cost = 0 }) ≡ record { trace = trace.exit.now; histories = histories.new; cost = result }) × (result ≤ 6432000000000) }
+    ensures { (turned file.now demands.now k n (record { trace = trace.old; histories = histories.old; cost = 0 }) ≡ record { trace = trace.new; histories = histories.new; cost = result }) × (result ≤ 6432000000000) }
 {
     let before = copy_out(histories, n);
     let s = slot(file, demands, k, n, trace, before);
@@ -262,7 +262,7 @@ fn slots(
     histories: &mut [History],
 ) -> u64
     requires { Ready file.now demands.now m n (length trace.old) histories.old }
-    ensures { (slots_after file.now demands.now n m (record { trace = trace.entry.now; histories = histories.old; cost = 0 }) ≡ record { trace = trace.exit.now; histories = histories.new; cost = result }) × (result ≤ 617472000000000) }
+    ensures { (slots_after file.now demands.now n m (record { trace = trace.old; histories = histories.old; cost = 0 }) ≡ record { trace = trace.new; histories = histories.new; cost = result }) × (result ≤ 617472000000000) }
 {
     let mut total: u64 = 0;
     let mut k = 0;

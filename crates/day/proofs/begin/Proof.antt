@@ -26,7 +26,7 @@ no-columns-requires c κs = search rules
 returns : tie.Need-returns-in-Refused
 returns c =
     let s = c in
-    ap (λ (f : Columns). record { verdict = Verdict.Refused c.v-1.given.0.0; sets = 0; slots = 0; first = f }) c.no_columns-first.ensures
+    ap (λ (f : Columns). record { verdict = Verdict.Refused c.in-Refused.r; sets = 0; slots = 0; first = f }) c.no_columns-first.ensures
     ∙ ap (opened s.args.file.now s.args.demands.now) (sym c.in-Refused.is ∙ c.verdict-v.ensures)
 
 enum_told : tie.Need-enum_told-1

@@ -48,7 +48,7 @@ history-after-requires : tie.Need-history_after-v-requires invariant-loop decrea
 history-after-requires c κs =
     let s = c in
     let l = c.loop-i in
-    let e = ap (λ (g : Columns). record_at g l.i) l.invariant.1 ∙ after-other s.args.before s.args.t2 l.i l.i (omega arith) in
+    let e = ap (λ (g : Columns). record_at g l.i) l.invariant.1 ∙ after-other s.args.before s.args.outputs l.i l.i (omega arith) in
     omega (arith, ap (λ (h : History). h.starts) e, s.requires.1 l.i (omega arith))
 
 mul-previous : tie.Need-offset_bounds-previous-i-in-loop-i invariant-loop decreases-loop
@@ -75,8 +75,8 @@ loop-again c =
     let l = c.loop-i in
     let v = c.history_after-v.ensures in (
       omega arith,
-      ap₂ (λ (g : Columns) (v : History). with_record g l.i v) l.invariant.1 (v ∙ ap (λ (g : Columns). history_after (record_at g l.i) (get_or s.args.t2 l.i 0)) l.invariant.1)
-          ∙ ap (columns_after s.args.before s.args.t2) (sym (add-one l.i)),
+      ap₂ (λ (g : Columns) (v : History). with_record g l.i v) l.invariant.1 (v ∙ ap (λ (g : Columns). history_after (record_at g l.i) (get_or s.args.outputs l.i 0)) l.invariant.1)
+          ∙ ap (columns_after s.args.before s.args.outputs) (sym (add-one l.i)),
     )
 
 returns : tie.Need-returns invariant-loop decreases-loop
