@@ -10,9 +10,7 @@ use lib.ListN.{length, get_or, set, length-set, length-map}
 use lib.Seq.{get_or-set_same, get_or-set_other}
 use borrow.Author.Tests.{leb-true, le-leb, lt-ltb, le-ltb}
 use Rattle.rules.specs.Lists.{each}
-use Rattle.rules.specs.Unit.{permitted}
 use Rattle.rules.specs.Regions.{Region, in_region, in_some}
-use Rattle.rules.specs.Problem.{target}
 use Rattle.rules.proofs.Verdicts.{and-true}
 use Rattle.rules.proofs.Lists.{length-each, each_from}
 use Rattle.regions.specs.Regions.{low, high, Inside, held_from}
