@@ -18,14 +18,19 @@ all_of : (file : List ℕ) (room : ℕ) → 1 ≤ room → file ≡ file_for fil
 all_of file zero p = absurd (omega arith)
 all_of file (suc n) p = refl
 
-slice-aggregate-result : tie.Need-slice-aggregate-result
+slice-aggregate-result : tie.Need-slice_bounds-result-end
 slice-aggregate-result c = search rules
 
-returns : tie.Need-returns
-returns c = none_of _ _ c.before.if1.true
+returns : tie.Need-returns-then-room-lt1
+returns c = none_of _ _ c.if-room-lt1.true
 
-returns-2 : tie.Need-returns-2
-returns-2 c = all_of _ _ c.if1.false
+returns-2 : tie.Need-returns
+returns-2 c = all_of _ _ c.if-room-lt1.false
 
-pub file-for-spec : {M : Type 1} → statement M
-file-for-spec = tie.close (tie.spec slice-aggregate-result returns returns-2)
+pub file_for_spec : {M : Type 1} → statement M
+file_for_spec =
+    tie.close
+    (tie.spec
+    slice-aggregate-result
+    returns
+    returns-2)

@@ -6,23 +6,31 @@ use Rattle.rules.specs.Calls.{number_of_packed}
 use Rattle.panel.proofs.file_number_of.Statement.{statement}
 use Rattle.panel.proofs.file_number_of.Tie as tie
 
-enum-known-answer : tie.Need-enum-known-answer
+enum-known-answer : tie.Need-enum_known-answer
 enum-known-answer c = search rules
 
-cast-result : tie.Need-overflow-cast-result
-cast-result c = omega (arith, c.before.before.before.requires _ c.before.answer.given.1)
+cast-result : tie.Need-overflow_cast-result
+cast-result c = omega (arith, c.requires _ c.in-Written.is)
 
-enum-known-answer-2 : tie.Need-enum-known-answer-2
+enum-known-answer-2 : tie.Need-enum_known-answer-in-Refused-1
 enum-known-answer-2 c = search rules
 
 number-requires : tie.Need-number-requires
 number-requires c κs = search rules
 
-returns : tie.Need-returns
-returns c = sym (ap number_of_packed c.before.answer.given.1)
+returns : tie.Need-returns-in-Written
+returns c = sym (ap number_of_packed c.in-Written.is)
 
-returns-2 : tie.Need-returns-2
-returns-2 c = c.number.ensures ∙ sym (ap number_of_packed c.before.before.answer2.given.1)
+returns-2 : tie.Need-returns-in-Refused
+returns-2 c = c.number.ensures ∙ sym (ap number_of_packed c.in-Refused.is)
 
-pub file-number-of-spec : {M : Type 1} → statement M
-file-number-of-spec = tie.close (tie.spec enum-known-answer cast-result enum-known-answer-2 number-requires returns returns-2)
+pub file_number_of_spec : {M : Type 1} → statement M
+file_number_of_spec =
+    tie.close
+    (tie.spec
+    enum-known-answer
+    cast-result
+    enum-known-answer-2
+    number-requires
+    returns
+    returns-2)

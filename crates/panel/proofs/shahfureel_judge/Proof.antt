@@ -8,38 +8,38 @@ use Rattle.panel.proofs.Answers.{judge-short, judge-told}
 use Rattle.panel.proofs.shahfureel_judge.Statement.{statement}
 use Rattle.panel.proofs.shahfureel_judge.Tie as tie
 
-returns : tie.Need-returns
-returns c = judge-short _ _ _ c.before.if1.true c.number.ensures
+returns : tie.Need-returns-then-answers-lt4
+returns c = judge-short _ _ _ c.if-answers-lt4.true c.number.ensures
 
 -- from the judgement back to the room that was asked
-room : (k : tie.After-judge) → 4 ≤ length k.before.before.before.before.args.answers.now
-room k = k.before.if1.false
+room : (k : tie.After-judge-judged) → 4 ≤ length k.args.answers.now
+room k = k.if-answers-lt4.false
 
-write-judgement-requires-2 : tie.Need-write-judgement-requires-2
+write-judgement-requires-2 : tie.Need-write_judgement-requires-in-Accepted
 write-judgement-requires-2 c κs =
-    let x = c.before.before in
-    let k = x.before.before in
-    record { room = room k; small = told-small _ _ _ _ _ (sym k.judge.ensures ∙ x.judged2.given.1) }
+    let x = c in
+    let k = x in
+    record { room = room k.before.before; small = told-small _ _ _ _ _ (sym k.judge-judged.ensures ∙ x.in-Accepted.is) }
 
-returns-2 : tie.Need-returns-2
+returns-2 : tie.Need-returns-in-Refused
 returns-2 c =
-    let x = c.before.before in
-    let k = x.before.before in
-    judge-told _ _ _ (room k) (sym k.judge.ensures ∙ x.judged.given.1) c.number2.ensures refl
+    let x = c in
+    let k = x in
+    judge-told _ _ _ (room k.before.before) (sym k.judge-judged.ensures ∙ x.in-Refused.is) c.number-in-Refused.ensures refl
 
-returns-3 : tie.Need-returns-3
+returns-3 : tie.Need-returns-in-NotAccepted
 returns-3 c =
-    let k = c.before.before.before.before.before in
-    judge-told _ _ _ (room k) (sym k.judge.ensures ∙ c.before.before.before.enum_told.given.1) refl c.before.write-judgement.ensures
+    let k = c in
+    judge-told _ _ _ (room k.before.before.before.before) (sym k.judge-judged.ensures ∙ c.in-NotAccepted.is) refl c.write_judgement.ensures
 
-returns-4 : tie.Need-returns-4
+returns-4 : tie.Need-returns-in-Accepted
 returns-4 c =
-    let x = c.before.before.before.before in
-    let k = x.before.before in
-    judge-told _ _ _ (room k) (sym k.judge.ensures ∙ x.judged2.given.1) refl c.before.write-judgement2.ensures
+    let x = c in
+    let k = x in
+    judge-told _ _ _ (room k.before.before.before.before) (sym k.judge-judged.ensures ∙ x.in-Accepted.is) refl c.write_judgement-in-Accepted.ensures
 
-pub shahfureel-judge-spec : {M : Type 1} → statement M
-shahfureel-judge-spec =
+pub shahfureel_judge_spec : {M : Type 1} → statement M
+shahfureel_judge_spec =
     tie.close
     (tie.spec
     (λ c κs. search rules)

@@ -6,12 +6,18 @@ use Rattle.panel.proofs.Answers.{pack-told, packed-small}
 use Rattle.panel.proofs.shahfureel_pack.Statement.{statement}
 use Rattle.panel.proofs.shahfureel_pack.Tie as tie
 
-file-number-of-requires : tie.Need-file-number-of-requires
-file-number-of-requires c κs n e = packed-small 1 _ _ _ _ c.before.before.pack.ensures e
+file-number-of-requires : tie.Need-file_number_of-requires
+file-number-of-requires c κs n e = packed-small 1 _ _ _ _ c.pack-answer.ensures e
 
 returns : tie.Need-returns
 unfolding panel_packed
-returns c = pack-told _ c.before.before.before.pack.ensures c.file-number-of.ensures
+returns c = pack-told _ c.pack-answer.ensures c.file_number_of.ensures
 
-pub shahfureel-pack-spec : {M : Type 1} → statement M
-shahfureel-pack-spec = tie.close (tie.spec (λ c κs. search rules) file-number-of-requires (λ c. search rules) returns)
+pub shahfureel_pack_spec : {M : Type 1} → statement M
+shahfureel_pack_spec =
+    tie.close
+    (tie.spec
+    (λ c κs. search rules)
+    file-number-of-requires
+    (λ c. search rules)
+    returns)

@@ -5,7 +5,12 @@ use Rattle.panel.proofs.shahfureel_run_start.Statement.{statement}
 use Rattle.panel.proofs.shahfureel_run_start.Tie as tie
 
 returns : tie.Need-returns
-returns c = start-told _ _ _ c.before.start.ensures c.tell-started.ensures
+returns c = start-told _ _ _ c.start.ensures c.tell_started.ensures
 
-pub shahfureel-run-start-spec : {M : Type 1} → statement M
-shahfureel-run-start-spec = tie.close (tie.spec (λ c κs. search rules) (λ c κs. search rules) returns)
+pub shahfureel_run_start_spec : {M : Type 1} → statement M
+shahfureel_run_start_spec =
+    tie.close
+    (tie.spec
+    (λ c κs. search rules)
+    (λ c κs. search rules)
+    returns)

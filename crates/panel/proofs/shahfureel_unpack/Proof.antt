@@ -13,59 +13,59 @@ use Rattle.panel.proofs.shahfureel_unpack.Tie as tie
 number-requires : tie.Need-number-requires
 number-requires c κs = search rules
 
-returns : tie.Need-returns
-returns c = unpack_short _ _ _ c.before.if1.true c.number.ensures
+returns : tie.Need-returns-then-answers-lt2
+returns c = unpack_short _ _ _ c.if-answers-lt2.true c.number.ensures
 
-unpack-requires : tie.Need-unpack-requires
+unpack-requires : tie.Need-unpack-answer-requires
 unpack-requires c κs = search rules
 
-enum-known-answer : tie.Need-enum-known-answer
+enum-known-answer : tie.Need-enum_known-answer
 enum-known-answer c = search rules
 
-number-requires-2 : tie.Need-number-requires-2
+number-requires-2 : tie.Need-number-requires-in-Refused
 number-requires-2 c κs = search rules
 
-enum-known-answer-2 : tie.Need-enum-known-answer-2
+enum-known-answer-2 : tie.Need-enum_known-answer-in-Read-1
 enum-known-answer-2 c = search rules
 
-cast-answers : tie.Need-overflow-cast-answers
+cast-answers : tie.Need-overflow_cast-answers
 cast-answers c = search rules
 
-slice-set-from-answers : tie.Need-slice-set-from-answers
+slice-set-from-answers : tie.Need-bounds-answers-0
 slice-set-from-answers c = search rules
 
-cast-answers-2 : tie.Need-overflow-cast-answers-2
+cast-answers-2 : tie.Need-overflow_cast-answers-in-Read
 cast-answers-2 c = search rules
 
-slice-set-from-answers-2 : tie.Need-slice-set-from-answers-2
+slice-set-from-answers-2 : tie.Need-bounds-answers-1
 slice-set-from-answers-2 c = search rules
 
-same_length : tie.Need-same-length
+same_length : tie.Need-shape_of-rows-in-Refused
 same_length c = search rules
 
-returns-2 : tie.Need-returns-2
+returns-2 : tie.Need-returns-in-Refused
 returns-2 c =
-    let x = c.before.before in
-    let u = x.before.before.before.before in
-    unpack_told _ _ _ u.before.before.if1.false u.unpack.ensures x.answer.given.1 c.number2.ensures refl
+    let x = c in
+    let u = x in
+    unpack_told _ _ _ u.if-answers-lt2.false u.unpack-answer.ensures x.in-Refused.is c.number-in-Refused.ensures refl
 
-same-length-2 : tie.Need-same-length-2
+same-length-2 : tie.Need-shape_of-rows-in-Read
 same-length-2 c = search rules
 
-same-length-3 : tie.Need-same-length-3
+same-length-3 : tie.Need-shape_of-answers
 same-length-3 c = search rules
 
-returns-3 : tie.Need-returns-3
+returns-3 : tie.Need-returns-in-Read
 returns-3 c =
-    let x = c.before in
-    let u = x.before.before.before.before in
-    let demand : to_z w64 x.answer2.given.0.0 ≡ pos x.answer2.given.0.0 = to_z_pos w64 (omega arith) in
-    let count : to_z w64 x.answer2.given.0.1.0 ≡ pos x.answer2.given.0.1.0 = to_z_pos w64 (omega arith) in
-    unpack_told _ _ _ u.before.before.if1.false u.unpack.ensures x.answer2.given.1 refl
-    (rw (demand, count) (two-written u.before.before.before.before.before.args.answers.now _ _ u.before.before.if1.false))
+    let x = c in
+    let u = x in
+    let demand : to_z w64 x.in-Read.demand ≡ pos x.in-Read.demand = to_z_pos w64 (omega arith) in
+    let count : to_z w64 x.in-Read.count ≡ pos x.in-Read.count = to_z_pos w64 (omega arith) in
+    unpack_told _ _ _ u.if-answers-lt2.false u.unpack-answer.ensures x.in-Read.is refl
+    (rw (demand, count) (two-written u.args.answers.now _ _ u.if-answers-lt2.false))
 
-pub shahfureel-unpack-spec : {M : Type 1} → statement M
-shahfureel-unpack-spec =
+pub shahfureel_unpack_spec : {M : Type 1} → statement M
+shahfureel_unpack_spec =
     tie.close
     (tie.spec
     number-requires

@@ -39,35 +39,35 @@ accepted s t (suc n) l k p b e = (ap (λ (x : Scheduled). number_told x (suc n))
 small : (s : Scheduled) (t : ℕ) → total_of s ≤ 617472000000000 → s ≡ Total t → t ≤ 617472000000000
 small s t p e = let q : total_of s ≡ t = ap total_of e in omega (arith, p, q)
 
-returns : tie.Need-returns
-returns c = no_room _ _ _ c.if1.true
+returns : tie.Need-returns-then-answers-lt1
+returns c = no_room _ _ _ c.if-answers-lt1.true
 
-enum-known-s : tie.Need-enum-known-s
+enum-known-s : tie.Need-enum_known-s
 enum-known-s c = search rules
 
 number-requires : tie.Need-number-requires
 number-requires c κs = search rules
 
-enum-known-s-2 : tie.Need-enum-known-s-2
+enum-known-s-2 : tie.Need-enum_known-s-in-Total-1
 enum-known-s-2 c = search rules
 
-cast-answers : tie.Need-overflow-cast-answers
-cast-answers c = record { sfits = omega (arith, small _ _ c.before.before.before.before.requires c.before.s2.given.1) }
+cast-answers : tie.Need-overflow_cast-answers
+cast-answers c = record { sfits = omega (arith, small _ _ c.requires c.in-Total.is) }
 
-slice-set-from-answers : tie.Need-slice-set-from-answers
+slice-set-from-answers : tie.Need-bounds-answers-0
 slice-set-from-answers c = search rules
 
-returns-2 : tie.Need-returns-2
-returns-2 c = refused _ _ _ _ _ c.before.before.before.before.if1.false c.before.before.s.given.1 c.number.ensures
+returns-2 : tie.Need-returns-in-Refused
+returns-2 c = refused _ _ _ _ _ c.if-answers-lt1.false c.in-Refused.is c.number.ensures
 
-same_length : tie.Need-same-length
+same_length : tie.Need-shape_of-answers
 same_length c = search rules
 
-returns-3 : tie.Need-returns-3
-returns-3 c = accepted _ _ _ c.before.before.before.before.args.answers.now refl c.before.before.before.if1.false (small _ _ c.before.before.before.before.requires c.before.s2.given.1) c.before.s2.given.1
+returns-3 : tie.Need-returns-in-Total
+returns-3 c = accepted _ _ _ c.args.answers.now refl c.if-answers-lt1.false (small _ _ c.requires c.in-Total.is) c.in-Total.is
 
-pub tell-spec : {M : Type 1} → statement M
-tell-spec =
+pub tell_spec : {M : Type 1} → statement M
+tell_spec =
     tie.close
     (tie.spec
     returns
