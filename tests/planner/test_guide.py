@@ -124,7 +124,8 @@ def test_the_examples_of_the_readme_as_they_stand():
     """Each command that README shows with its answer, typed as it stands there."""
     blocks = re.findall(r"^```\n(.*?)^```$", (ROOT / "README.md").read_text(encoding="utf-8"), re.M | re.S)
     shown = [(typed, said) for typed, said in zip(blocks, blocks[1:]) if typed.startswith("python3 -m shahfureel")]
-    shown = [(typed, said) for typed, said in shown if " day " not in typed]  # README leaves the day's answer to the guide
+    # README leaves the day's answer to the guide, and the screen's to its picture
+    shown = [(typed, said) for typed, said in shown if not re.search(" (day|screen) ", typed)]
     assert len(shown) == 3
     environment = {name: value for name, value in os.environ.items() if not name.startswith("PYTHON")}
     for typed, said in shown:
