@@ -1,7 +1,6 @@
 -- `demands::demands_invalid` meets its contract: the loop keeps that no demand so far is above the limit (`Passing`). (Goals and facts named for a condition that an edit of must-fail changes are cited without that name.)
 use Prim.Native.Nat.{ℕ, ◌-◌}
 use native.Mathlib.Omega.{arith}
-use mathlib.Core.Path.{◌≡◌}
 use mathlib.Core.Bool.{Bool}
 use lib.Dec.{leb}
 use lib.ListN.{length, get_or}

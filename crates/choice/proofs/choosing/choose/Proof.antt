@@ -1,8 +1,11 @@
--- `choice::choosing::choose` meets its contract: it stands or runs (`Regions`), and standing costs nothing.
+-- `choice::choosing::choose` meets its contract: it stands or runs (`Regions`), and standing costs nothing. (Goals and facts named for a condition that an edit of must-fail changes are cited without that name.)
 use Prim.Native.Nat.{ℕ, ◌+◌, ◌≤◌, ◌<◌}
 use mathlib.Core.Path.{◌≡◌, sym, ◌∙◌, subst, subst⁻¹}
 use native.Mathlib.Decide.{ℕ_discrete}
 use native.Mathlib.Omega.{arith}
+use lib.IntN.{pos}
+use lib.Signed.{lt_z}
+use mathlib.Core.Bool.{true}
 use mir.Syntax.{w64}
 use mir.Val.{to_z, of_z}
 use mir.Facts.{to_z-of_z}
@@ -109,17 +112,12 @@ priced-is c = c.priced_cost-priced.ensures ∙ sym (priced-running (s c.before).
 running-read : (c : tie.After-priced_cost-priced) → to_z w64 (of_z w64 c.priced_cost-priced.result) ≡ priced_at (s c.before).args.c (p c.before)
 running-read c = to_z-of_z {w = w64} (search rules) ∙ priced-is c
 
-only-requires-2 : tie.Need-only-requires-then-priced-gt0
-only-requires-2 c κs = search rules
-
-returns-3 : tie.Need-returns-then-priced-gt0
-returns-3 c =
-    let d = c in
-    let h = d in
-    let e = h in
-    gives_only c.only-then-priced-gt0.ensures
-    (stands-better (s e.before.before.before).requires (stands e.before.before.before) (more e.before.before.before) (chosen e.before.before.before)
-    (under (standing-is e.before.before.before) (itself (priced_at (s e.before.before.before).args.c (p e.before.before.before))) (when_lt (is_pos 0) (is_same (running-read h.before.before) (itself _)) d.if-priced-gt0.true)))
+-- it stands where running costs more
+dearer : (c : tie.After-priced_cost-priced) → lt_z (pos 0) (to_z w64 (of_z w64 c.priced_cost-priced.result)) ≡ true → Chosen (priced_at (s c.before).args.c) (Within (s c.before).args.ends.now (s c.before).args.first (s c.before).args.last) 0 0
+dearer c h =
+    let e = c.before in
+    stands-better (s e).requires (stands e) (more e) (chosen e)
+    (under (standing-is e) (itself (priced_at (s e).args.c (p e))) (when_lt (is_pos 0) (is_same (running-read c) (itself _)) h))
 
 both-requires : tie.Need-both-requires
 both-requires c κs = search rules
@@ -137,7 +135,7 @@ returns-5 c =
     let h = c in
     let e = h in
     let read = is_same (running-read h.before.before) (itself (priced_at (s e.before.before.before).args.c (p e.before.before.before))) in
-    let not-above = when_ge (is_pos 0) read c.if-priced-gt0.false in
+    let not-above = when_ge (is_pos 0) read (search rules) in
     let not-zero = other_bits (is_same (priced-is h.before.before) (itself (priced_at (s e.before.before.before).args.c (p e.before.before.before)))) c.if-priced-eq0.false in
     record { chosen = runs-better (s e.before.before.before).requires (stands e.before.before.before) (more e.before.before.before) (chosen e.before.before.before) (under (itself (priced_at (s e.before.before.before).args.c (p e.before.before.before))) (standing-is e.before.before.before) (omega arith)); alone = e.choose_running-running.ensures.alone }
 
@@ -151,8 +149,8 @@ choose_spec =
     choose-running-requires
     returns-2
     priced-cost-requires
-    only-requires-2
-    returns-3
+    (λ c κs. search rules)
+    (λ c. gives_only (search rules) (dearer c.before.before (search rules)))
     both-requires
     returns-4
     returns-5)

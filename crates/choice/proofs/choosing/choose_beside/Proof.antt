@@ -1,7 +1,5 @@
 -- `choice::choosing::choose_beside` meets its contract: the vertex lies in the region that reaches it first, behind that region's start, or at the start or before it (`Regions`).
-use native.Mathlib.Omega.{arith}
-use Prim.Native.Nat.{◌-◌}
-use Rattle.choice.proofs.Regions.{alone, tied_pair, lowest-only, behind-first, before_small, behind-small, between-regions}
+use Rattle.choice.proofs.Regions.{alone, tied_pair, lowest-only, before_small, behind-small, between-regions}
 use Rattle.choice.proofs.Giving.{gives_only, gives_both}
 use borrow.Author.Rules.{rules}
 use Rattle.choice.proofs.choosing.choose_beside.Statement.{statement}

@@ -1,8 +1,7 @@
--- `choice::choosing::choose_running` meets its contract: over is square − linear, by is 2 × square, and the vertex over / by. Past an end of the regions that end is the choice; where square and linear are 0 all outputs tie (`Regions`).
+-- `choice::choosing::choose_running` meets its contract: over is square − linear, by is 2 × square, and the vertex over / by. Past an end of the regions that end is the choice; where square and linear are 0 all outputs tie (`Regions`). (Goals and facts named for a condition that an edit of must-fail changes are cited without that name.)
 use Prim.Native.Nat.{ℕ, ◌+◌, ◌*◌, ◌-◌, ◌/◌, ◌%◌, ◌≤◌, ◌<◌}
 use mathlib.Core.Path.{◌≡◌, ap, subst⁻¹}
 use native.Mathlib.Nat.{mul-le-mul, mod-lt}
-use native.Mathlib.Decide.{dec_lt}
 use native.Mathlib.Omega.{arith}
 use lib.IntN.{ℤ, nat_abs, ◌-ℤ◌}
 use lib.Signed.{quot_z, rem_z}
@@ -15,6 +14,9 @@ use Rattle.fields.proofs.Integers.{back, cast, is_minus, fits, kept, not_negativ
 use Rattle.regions.specs.Regions.{low, high}
 use Rattle.choice.proofs.Signed.{is_quotient, is-remainder, zero_bits, other_bits}
 use Rattle.curve.proofs.Heights.{vertex-valley, vertex-from, vertex-to, vertex-level, vertex-falls}
+use Rattle.rules.specs.Offers.{Chosen}
+use Rattle.site.specs.Site.{Within}
+use Rattle.curve.specs.Curve.{height}
 use Rattle.choice.proofs.Regions.{small, lowest, highest, past-highest, before-lowest, all-tied}
 use Rattle.choice.proofs.Giving.{gives_only, gives_both}
 use Rattle.choice.proofs.choosing.choose_running.Statement.{statement}
@@ -163,26 +165,12 @@ module _ (c : tie.Else-over-by-2) where
 both-requires : tie.Need-both-requires
 both-requires c κs = search rules
 
-returns-3 : tie.Need-returns-then-by-eq0
-returns-3 c =
-    let d = c in
-    let none : a (b d.before.before) ≡ 0 = omega (arith, c.if-by-eq0.true) in
-    gives_both c.both.ensures
-    (all-tied (b d.before.before).requires none (omega (arith, below-highest d.before.before, above-lowest d.before.before, ap (λ (n : ℕ). n * highest-is (b d.before.before)) none, ap (λ (n : ℕ). n * lowest-is (b d.before.before)) none)))
+flat : (d : tie.Else-over-by-2) → a (b d) ≡ 0 → Chosen (height (b d).args.c) (Within (b d).args.ends.now (b d).args.first (b d).args.last) (highest-is (b d)) (lowest-is (b d))
+flat d none = all-tied (b d).requires none (omega (arith, below-highest d, above-lowest d, ap (λ (n : ℕ). n * highest-is (b d)) none, ap (λ (n : ℕ). n * lowest-is (b d)) none))
 
-module _ (c : tie.Else-by-eq0) where
-  abbrev d : tie.Else-over-by-2
-  d = c.before
-
+module _ (d : tie.Else-over-by-2) (positive : 0 < a (b d)) where
   abbrev e : tie.Start
   e = b d
-
-  positive : 0 < a e
-  positive = by (dec_lt 0 (a e))
-    where
-      by : Dec (0 < a e) → 0 < a e
-      by (yes h) = h
-      by (no h) = absurd (c.if-by-eq0.false (omega arith))
 
   abbrev v : ℕ
   v = (a e + t e - s e) / (2 * a e)
@@ -221,29 +209,31 @@ cast-twice : tie.Need-overflow_cast-twice
 cast-twice c = search rules
 
 div-choose-beside : tie.Need-nonzero_div-over
-div-choose-beside c = (omega (arith, positive c), fits (quotient c) (omega (arith, v-small c)) (omega arith))
+div-choose-beside c = let k : 0 < a (b c.before) = omega arith in (omega (arith, k), fits (quotient c.before k) (omega (arith, v-small c.before k)) (omega arith))
 
 cast-choose-beside : tie.Need-overflow_cast-over-2
-cast-choose-beside c = (not_negative (v-read c) (omega arith), record { fits = omega (arith, v-is c, v-small c) })
+cast-choose-beside c = let k : 0 < a (b c.before) = omega arith in (not_negative (v-read c.before k) (omega arith), record { fits = omega (arith, v-is c.before k, v-small c.before k) })
 
 rem-choose-beside : tie.Need-nonzero_rem-over
-rem-choose-beside c = (omega (arith, positive c), fits (quotient c) (omega (arith, v-small c)) (omega arith))
+rem-choose-beside c = let k : 0 < a (b c.before) = omega arith in (omega (arith, k), fits (quotient c.before k) (omega (arith, v-small c.before k)) (omega arith))
 
 choose-beside-requires : tie.Need-choose_beside-requires
 choose-beside-requires c κs =
-    let x = e c in
+    let d = c.before in
+    let k : 0 < a (b d) = omega arith in
+    let x = b d in
     let r = (a x + t x - s x) % (2 * a x) in
     let z = rem_z (to_z w64 (of_z w64 (over x))) (to_z w64 (2 * a x)) in
-    rw (v-is c)
+    rw (v-is d k)
     (record {
       running = x.requires;
-      from = v-from c;
-      to = v-to c;
-      valley = vertex-valley x.args.c (positive c) (not-less (d c));
-      level = λ h. vertex-level x.args.c (positive c) (not-less (d c)) (v-runs c) (omega (arith, zero_bits z (eqb-true (of_z w64 z) 0 h), rest_read c));
+      from = v-from d k;
+      to = v-to d k;
+      valley = vertex-valley x.args.c k (not-less d);
+      level = λ h. vertex-level x.args.c k (not-less d) (v-runs d k) (omega (arith, zero_bits z (eqb-true (of_z w64 z) 0 h), rest_read d k));
       falls = λ h.
-          let n = other_bits (rest c) (eqb-false (of_z w64 z) 0 h) in
-          vertex-falls x.args.c (positive c) (not-less (d c)) (v-runs c) (some r n);
+          let n = other_bits (rest d k) (eqb-false (of_z w64 z) 0 h) in
+          vertex-falls x.args.c k (not-less d) (v-runs d k) (some r n);
     })
   where
     some : (r : ℕ) → ¬ (r ≡ 0) → 0 < r
@@ -277,7 +267,7 @@ choose_running_spec =
     only-requires-2
     returns-2
     both-requires
-    returns-3
+    (λ c. gives_both c.both.ensures (flat c.before.before (omega arith)))
     cast-twice
     div-choose-beside
     cast-choose-beside
