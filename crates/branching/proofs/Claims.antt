@@ -9,7 +9,7 @@ use lib.ListN.{length}
 use borrow.Author.Tests.{lt-ltb, le-ltb}
 use Rattle.rules.specs.Lists.{over, Every}
 use Rattle.rules.specs.Layout.{case_of}
-use Rattle.rules.specs.Refusal.{◌refuses◌, file_verdict}
+use Rattle.rules.specs.Refusal.{file_verdict}
 use Rattle.rules.specs.Problem.{problem_of, problem_in}
 use Rattle.rules.specs.Bisection.{Reply, solvable, solve}
 use Rattle.rules.specs.Calls.{DispatchResult, case_verdict, dispatch_verdict, dispatch_ends, dispatched}

@@ -3,17 +3,17 @@ use mathlib.Core.Path.{◌≡◌, refl, ap, subst, ◌∙◌}
 use mathlib.Core.List.{List}
 use Prim.Native.Nat.{ℕ, ◌+◌, ◌*◌, ◌-◌, ◌/◌, ◌%◌, ◌≤◌, ◌<◌}
 use native.Mathlib.Nat.{le_refl, mul-le-mul, mul-le-mul_left, mul-le-mul_right, mul-div-le, mod-add-div, lt-mul-div-succ, le-div_iff_mul-le, div-lt_iff_lt-mul}
-use native.Mathlib.Decide.{dec_lt, ℕ_discrete}
+use native.Mathlib.Decide.{ℕ_discrete}
 use native.Mathlib.Omega.{arith}
 use lib.IntN.{ℤ, pos, ◌-ℤ◌}
-use lib.Signed.{◌≤ℤ◌, ◌<ℤ◌, ≤ℤ_refl}
+use lib.Signed.{◌<ℤ◌}
 use borrow.Author.Tests.{ne_eqb}
 use mir.Syntax.{w64}
 use mir.Val.{SFits, to_z, of_z}
 use Rattle.rules.specs.Unit.{Unit, cost, linear_factor, net}
 use Rattle.rules.specs.Choice.{priced_cost}
 use Rattle.fields.specs.Integers.{Is, positive_part, negative_part}
-use Rattle.fields.proofs.Integers.{is_pos, is-sub, is_minus, cast, fits, kept, same, at_most, under, up_is, dn_is}
+use Rattle.fields.proofs.Integers.{is_pos, is-sub, is_minus, cast, fits, kept, same, under, up_is, dn_is}
 use Rattle.rules.specs.Sound.{Sound}
 use Rattle.rules.proofs.Economics.Quantities.{factor, cost-running, cost-standing, net-whole, priced-is}
 use Rattle.site.specs.Site.{factor_at, c0At, c1At, c2At, b_at, Coefficients}

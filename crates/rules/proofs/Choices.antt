@@ -1,20 +1,19 @@
 -- The choices of one multiplier are an allocation where every unit has a permitted output (`Choices` in specs/): each is among what its unit offers.
 use mathlib.Core.Path.{◌≡◌}
 use mathlib.Core.Bool.{true}
-use mathlib.Core.List.{List, map}
 use Prim.Native.Nat.{ℕ, zero, suc, ◌<◌}
 use native.Mathlib.Omega.{arith}
 use Rattle.rules.specs.Lists.{each, Every}
 use Rattle.rules.specs.Unit.{Unit, permitted}
 use Rattle.rules.specs.Layout.{count, unit_at, case_of}
-use Rattle.rules.specs.Problem.{Offer, offer, problem_of, problem_in}
+use Rattle.rules.specs.Problem.{offer, problem_of, problem_in}
 use Rattle.rules.specs.Choice.{choices}
-use Rattle.rules.specs.Choices.{EachMayGive, ChoicesAllocate}
+use Rattle.rules.specs.Choices.{ChoicesAllocate}
 use Rattle.rules.proofs.Lists.{every_map}
 use Rattle.rules.specs.Sound.{Sound}
 use Rattle.rules.proofs.Economics.Chosen.{some-among}
 use Rattle.rules.proofs.Economics.Outputs.{permitted-offered}
-use Rattle.rules.specs.Offers.{Available, Given}
+use Rattle.rules.specs.Offers.{Available}
 use Rattle.rules.proofs.Economics.Allocations.{tied-given, choices_tied}
 use Rattle.rules.proofs.Economics.Solvable.{given-allocation, offer-proper}
 use Rattle.rules.proofs.Encoding.SoundFile.{units-sound}

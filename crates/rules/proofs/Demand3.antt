@@ -8,7 +8,7 @@ use lib.ListN.{length}
 use borrow.Author.Tests.{le-ltb}
 use Rattle.rules.specs.Lists.{over, Every}
 use Rattle.rules.specs.Unit.{Unit, permitted}
-use Rattle.rules.specs.Layout.{Case, case_of, count}
+use Rattle.rules.specs.Layout.{Case, case_of}
 use Rattle.rules.specs.Refusal.{◌refuses◌, file_verdict}
 use Rattle.rules.specs.Problem.{allocation, problem_of, problem_in}
 use Rattle.rules.specs.Bisection.{solvable, solve}

@@ -1,14 +1,14 @@
 -- More load is never cheaper (`Loads` in specs/). Of one list of offers at two demands: the greater demand has no smaller dual value and no cheaper best; and two files that differ in the demand field alone have the same units.
-use mathlib.Core.Path.{◌≡◌, refl, sym, ap, ap₂, subst, ◌∙◌}
-use mathlib.Core.Bool.{Bool, true, false, not}
+use mathlib.Core.Path.{◌≡◌, refl, sym, ap, subst, ◌∙◌}
+use mathlib.Core.Bool.{Bool, true}
 use mathlib.Core.List.{List, [], ◌∷◌}
-use mathlib.Core.Logic.{◌⊎◌, inl, inr, ⊎_elim}
+use mathlib.Core.Logic.{⊎_elim}
 use Prim.Native.Nat.{ℕ, zero, suc, ◌+◌, ◌*◌, ◌-◌, ◌≤◌, ◌<◌}
 use native.Mathlib.Nat.{mul-le-mul_left}
 use native.Mathlib.Omega.{arith}
 use lib.Dec.{ltb}
-use lib.IntN.{ℤ, pos}
-use lib.ListN.{length, take, drop, length-drop}
+use lib.IntN.{ℤ}
+use lib.ListN.{length, take, drop}
 use lib.Seq.{take-take, drop-drop}
 use lib.Signed.{◌≤ℤ◌}
 use borrow.Author.Tests.{le-leb, leb-true, le-ltb, ltb-false}
@@ -16,14 +16,14 @@ use Rattle.fields.specs.Field.{field, number}
 use Rattle.fields.proofs.Integers.{ints, at_most}
 use Rattle.rules.specs.Lists.{each, all, Every}
 use Rattle.rules.specs.Unit.{Unit}
-use Rattle.rules.specs.Layout.{edition, count, demand, offset, size, body, unit_at, Case, case_of}
+use Rattle.rules.specs.Layout.{edition, count, demand, offset, size, unit_at, case_of}
 use Rattle.rules.specs.Refusal.{start, ◌refuses◌, file_verdict}
-use Rattle.rules.specs.Problem.{allocation, total_cost, total_net, covers, Problem, units_of, target, problem_of, problem_in}
+use Rattle.rules.specs.Problem.{allocation, total_cost, total_net, covers, Problem, units_of, problem_of, problem_in}
 use Rattle.rules.specs.Choice.{choices, selected, dual_value, floor}
 use Rattle.rules.specs.Bisection.{greatest_outputs, solvable, found}
-use Rattle.rules.specs.Calls.{DispatchResult, case_verdict, dispatched, price_verdict, price_ends, priced}
-use Rattle.rules.specs.Promise.{reply_in, cost_less_gap, Covering, Promise, ReplyPromise}
-use Rattle.rules.specs.Loads.{TwoDemands, SameButDemand, SameBytesSameUnits, NoDearer, MoreLoadNeverCheaper, NoGreaterDual, MoreLoadNoLowerDual}
+use Rattle.rules.specs.Calls.{case_verdict, dispatched, price_verdict, price_ends, priced}
+use Rattle.rules.specs.Promise.{reply_in, Promise, ReplyPromise}
+use Rattle.rules.specs.Loads.{TwoDemands, SameButDemand, SameBytesSameUnits, NoDearer, MoreLoadNeverCheaper, MoreLoadNoLowerDual}
 use Rattle.rules.specs.declared.Refusal.TheVariants.{NoAllocation, MultiplierOutOfRange}
 use Rattle.rules.specs.declared.Verdict.{Verdict}
 use Rattle.rules.specs.declared.Dispatched.{Dispatched}
@@ -34,8 +34,8 @@ use Rattle.rules.proofs.Economics.Rounding.{divided-rises}
 use Rattle.rules.specs.Offers.{Proper}
 use Rattle.rules.proofs.Economics.Allocations.{dual-is}
 use Rattle.rules.proofs.Economics.Lowering.{more_slack}
-use Rattle.rules.proofs.Economics.Solvable.{solvable-available, solvable-covers, case-proper}
-use Rattle.rules.proofs.Economics.Solution.{shown, at_most_first, same-cost, same-net, same_target}
+use Rattle.rules.proofs.Economics.Solvable.{solvable-available, case-proper}
+use Rattle.rules.proofs.Economics.Solution.{shown, at_most_first, same-cost}
 use Rattle.rules.proofs.Encoding.SoundFile.{SoundFile, sound-file, units-sound}
 use Rattle.rules.proofs.Demand3.{case-accepted, demand3}
 use Rattle.rules.proofs.Replied.{replied}

@@ -1,9 +1,9 @@
 -- The permitted outputs of an accepted unit are those of its regions, which ascend (`Regions` in specs/): zone by zone, behind each zone what lies past its upper edge.
 use mathlib.Core.Path.{◌≡◌, refl, sym, ◌∙◌}
-use mathlib.Core.Bool.{Bool, true, false, cond, not, ◌&&◌, ◌||◌, true≢false}
-use mathlib.Core.List.{List, [], ◌∷◌, ◌++◌, map}
+use mathlib.Core.Bool.{Bool, true, false, cond, ◌&&◌, ◌||◌, true≢false}
+use mathlib.Core.List.{List, [], ◌∷◌, ◌++◌}
 use mathlib.Core.Logic.{◌⊎◌, inl, inr, ⊎_elim}
-use Prim.Native.Nat.{ℕ, zero, suc, ◌+◌, ◌-◌, ◌≤◌, ◌<◌, max, min}
+use Prim.Native.Nat.{ℕ, zero, suc, ◌+◌, ◌-◌, ◌≤◌, max, min}
 use native.Mathlib.Omega.{arith}
 use native.Mathlib.Decide.{dec_le}
 use lib.Dec.{ltb, leb, eqb}
@@ -15,7 +15,7 @@ use Rattle.rules.proofs.Verdicts.{either_way, and-true}
 use Rattle.rules.specs.Sound.{Sound}
 use Rattle.rules.proofs.Sound.{sound, zone-parts, ascending}
 use Rattle.rules.proofs.Zones.{outside, before-zone, after-zone, within-zone}
-use Rattle.rules.proofs.Economics.Outputs.{Runs, stands-permitted, runs-permitted}
+use Rattle.rules.proofs.Economics.Outputs.{stands-permitted, runs-permitted}
 
 -- ---- in one region, and in some
 

@@ -14,7 +14,7 @@ use Rattle.rules.specs.Lists.{each, all, Every}
 use Rattle.rules.specs.Unit.{Unit, with_loss}
 use Rattle.rules.specs.Layout.{unit_of_body, body_length, edition, count, demand, body, units_of_rows, unit_in_row}
 use Rattle.rules.specs.Refusal.{number_of, number_of_verdict, ◌refuses◌, ◌then◌, in_order, zone_count_invalid, coefficient_out_of_range, losses_out_of_range, limits_invalid, ramp_or_mark_out_of_range, edition_verdict, head_verdict, start, entry_fits, contents_verdict, unit_verdict, body_verdict, file_verdict}
-use Rattle.rules.specs.Calls.{file_length, pack_verdict, pack_ends, packed_in, packed}
+use Rattle.rules.specs.Calls.{file_length, pack_verdict, pack_ends, packed_in}
 use Rattle.rules.specs.Losses.{LinearLossInRange, NetRises, RefusedExactlyWhereNetDoesNotRise, PackingNeverMeets18, Edition1NeverMeets18}
 use Rattle.rules.specs.declared.Refusal.{Refusal}
 use Rattle.rules.specs.declared.Refusal.TheVariants.{FileTooShort, EditionUnknown, CountOutOfRange, DemandOutOfRange, ContentsInvalid, ZoneCountInvalid, CoefficientOutOfRange, LimitsInvalid, RampOrMarkOutOfRange, RowsInvalid, FileBufferTooShort, LossesOutOfRange}

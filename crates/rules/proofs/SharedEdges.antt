@@ -4,11 +4,11 @@ use mathlib.Core.Bool.{Bool, true, false, cond, not, ◌&&◌, ◌||◌, true≢
 use mathlib.Core.List.{List, [], ◌∷◌, ◌++◌, map}
 use mathlib.Core.Logic.{◌⊎◌, inl, inr, ⊎_elim, ◌↔◌}
 use mathlib.Core.Path.{◌≡◌, refl, sym, ap, ap₂, ◌∙◌, subst, subst⁻¹}
-use native.Mathlib.Decide.{dec_lt, dec_le}
+use native.Mathlib.Decide.{dec_lt}
 use native.Mathlib.Omega.{arith}
 use lib.Dec.{ltb, leb, eqb}
 use lib.ListN.{length}
-use borrow.Author.Tests.{lt-ltb, le-ltb, le-leb, lt-leb, leb-true, ltb-true, eq-eqb, ne_eqb}
+use borrow.Author.Tests.{lt-ltb, le-leb, leb-true, ltb-true, eq-eqb}
 use Rattle.rules.specs.Lists.{each}
 use Rattle.rules.specs.Unit.{Unit, Zone, zone_at, zones, permitted, strictly_inside, in_ramp_window}
 use Rattle.rules.specs.Layout.{unit_of_body, body_length, edition, count, body, unit_at, units_of_rows}
@@ -17,7 +17,7 @@ use Rattle.rules.specs.Regions.{Region, intervals, windowed, left_of, regions}
 use Rattle.rules.specs.Problem.{problem_in}
 use Rattle.rules.specs.Bisection.{solvable}
 use Rattle.rules.specs.Calls.{case_verdict, dispatch_verdict, dispatch_ends, dispatched, price_verdict, price_ends, priced, file_length, pack_verdict, pack_ends, packed_in, packed, unpack_verdict, unpack_ends, unpacked}
-use Rattle.rules.specs.SharedEdges.{InOrder, NineExactlyOutOfOrder, CallsAsBefore, zones_rise, limits_invalid_before, unit_verdict_by, unit_verdict_before, body_verdict_before, file_verdict_before, dispatched_before, priced_before, unpacked_before, pack_verdict_before, packed_before, shares_edge, NoSharedEdge, SameWithoutSharedEdge, AcceptedStays, SharedPoint, SharedEdgePermitted}
+use Rattle.rules.specs.SharedEdges.{InOrder, NineExactlyOutOfOrder, CallsAsBefore, zones_rise, limits_invalid_before, unit_verdict_by, unit_verdict_before, body_verdict_before, file_verdict_before, dispatched_before, priced_before, unpacked_before, pack_verdict_before, packed_before, shares_edge, NoSharedEdge, SameWithoutSharedEdge, AcceptedStays, SharedEdgePermitted}
 use Rattle.rules.specs.declared.Refusal.TheVariants.{
   BufferTooShort,
   MultiplierOutOfRange,
@@ -35,7 +35,6 @@ use Rattle.rules.specs.declared.Verdict.{Verdict}
 use Rattle.rules.specs.declared.Verdict.TheVariants.{Accepted}
 use Rattle.rules.proofs.Lists.{each_same}
 use Rattle.rules.proofs.Verdicts.{or_false, and-true, not_is_false, either_way, refuses-accepted, then_accepted, in_order_each}
-use Rattle.rules.specs.Sound.{Sound}
 use Rattle.rules.proofs.Sound.{sound, zone-parts, ascending}
 use Rattle.rules.proofs.Zones.{outside, before-zone, after-zone, within-zone}
 use Rattle.rules.proofs.Economics.Outputs.{runs-permitted}

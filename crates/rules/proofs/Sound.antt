@@ -7,14 +7,11 @@ use mathlib.Core.Bool.{true, false}
 use mathlib.Core.List.{List, [], ◌∷◌}
 use mathlib.Core.Logic.{◌↔◌}
 use lib.Dec.{eqb}
-use lib.IntN.{pos, ◌+ℤ◌}
 use lib.ListN.{get_or, drop}
 use lib.Seq.{get_or-drop}
-use lib.Signed.{◌<ℤ◌}
 use borrow.Author.Tests.{eqb-true, eq-eqb}
 use Rattle.rules.specs.Unit.{Unit, Zone, zone_at, zones, with_previous}
-use Rattle.rules.specs.Refusal.{zones_ascend, starts_above, unused_edges_zero, losses_out_of_range, unit_verdict}
-use Rattle.rules.specs.Losses.{LinearLossInRange}
+use Rattle.rules.specs.Refusal.{zones_ascend, unused_edges_zero, losses_out_of_range, unit_verdict}
 use Rattle.rules.specs.declared.Verdict.TheVariants.{Accepted}
 use Rattle.rules.specs.Sound.{Sound, SoundLosses}
 use Rattle.rules.specs.Lists.{Every}

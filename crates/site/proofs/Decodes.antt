@@ -1,26 +1,22 @@
 -- What the loop over the bodies keeps: those passed are accepted, and their units are written. And what decoding gives at each way out of it.
 use mathlib.Core.Path.{◌≡◌, refl, sym, ap, ◌∙◌}
 use mathlib.Core.Bool.{Bool, true, false}
-use mathlib.Core.List.{List, [], ◌∷◌, map}
-use Prim.Native.Nat.{ℕ, zero, suc, ◌+◌, ◌*◌, ◌≤◌, ◌<◌}
+use mathlib.Core.List.{List}
+use Prim.Native.Nat.{ℕ, ◌+◌, ◌*◌, ◌≤◌, ◌<◌}
 use native.Mathlib.Omega.{arith}
-use lib.ListN.{length, get_or, length-map}
 use Rattle.rules.specs.Lists.{each}
-use Rattle.rules.specs.Unit.{Unit}
 use Rattle.rules.specs.Layout.{count, demand, unit_at, case_of}
 use Rattle.rules.specs.Refusal.{in_order, head_verdict, contents_verdict, file_verdict}
-use Rattle.rules.specs.Problem.{offer, problem_of, problem_in}
+use Rattle.rules.specs.Problem.{problem_of, problem_in}
 use Rattle.rules.specs.Calls.{case_verdict}
 use Rattle.rules.specs.declared.Refusal.{Refusal}
 use Rattle.rules.specs.declared.Refusal.TheVariants.{NoAllocation}
 use Rattle.rules.specs.declared.Verdict.{Verdict}
 use Rattle.rules.specs.declared.Verdict.TheVariants.{Accepted, Refused}
-use Rattle.rules.proofs.Lists.{length-each, get_or_each}
 use Rattle.rules.proofs.Each.{Checked, checked-starts, checked-ends, checked_refused, checked-more}
 use Rattle.rules.proofs.Encoding.SoundFile.{sound-head}
 use Rattle.casefile.proofs.Body.{verdict_at}
 use Rattle.casefile.proofs.File.{file-head, file-contents, file-bodies}
-use Rattle.site.specs.Site.{no_offer}
 use Rattle.site.specs.Clauses.{BodiesNamed, Offering, Site}
 use Rattle.site.proofs.UnitsWritten.{UnitsWritten, units-start, offering, problem-held, problem-unserved}
 

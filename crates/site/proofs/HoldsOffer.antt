@@ -8,7 +8,6 @@ use native.Mathlib.Decide.{dec_lt}
 use native.Mathlib.Omega.{arith}
 use lib.ListN.{get_or}
 use Rattle.rules.specs.Unit.{Unit}
-use Rattle.rules.specs.Regions.{Region}
 use Rattle.rules.specs.Problem.{Offer, offer}
 use Rattle.rules.specs.Offers.{Among}
 use Rattle.rules.proofs.Lists.{each_same}

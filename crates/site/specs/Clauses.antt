@@ -4,7 +4,7 @@ use Rattle.rules.specs.Unit.{Unit, with_previous}
 use Rattle.rules.specs.Layout.{edition, count, unit_at}
 use Rattle.rules.specs.Refusal.{head_verdict, contents_verdict, file_verdict}
 use Rattle.rules.specs.Regions.{regions}
-use Rattle.rules.specs.Problem.{Offer, Problem, offer, target, problem_in}
+use Rattle.rules.specs.Problem.{Problem, offer, target, problem_in}
 use Rattle.rules.specs.Bisection.{solvable}
 use Rattle.rules.specs.Calls.{case_verdict}
 use Rattle.rules.specs.declared.Verdict.{Verdict}

@@ -1,7 +1,6 @@
 -- `curve::cost_of` meets its contract: every product is in range (`Heights`).
 use mathlib.Core.Path.{sym}
 use native.Mathlib.Omega.{arith}
-use Prim.Native.Nat.{◌-◌}
 use Rattle.curve.proofs.Heights.{AtOutputRange, at-output, cost-computed}
 use Rattle.rules.proofs.Economics.Quantities.{cost-standing}
 use borrow.Author.Rules.{rules}

@@ -2,7 +2,6 @@
 use native.Mathlib.Omega.{arith}
 use Prim.Native.Nat.{◌-◌, ◌≤◌}
 use lib.ListN.{length, length-set, replicate}
-use mathlib.Core.Path.{◌≡◌}
 use Rattle.rules.proofs.Encoding.Front.{Front, front-none, front_length}
 use Rattle.filled.proofs.Filling.{filled_more, filled-all}
 use Rattle.filled.proofs.fill_bytes.Statement.{statement}

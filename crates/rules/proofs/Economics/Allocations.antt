@@ -13,12 +13,11 @@ use Rattle.rules.specs.Lists.{greatest, Every, Pairwise}
 use Rattle.rules.specs.Numbers.{total}
 use Rattle.rules.specs.Unit.{cost, net}
 use Rattle.rules.specs.Problem.{total_cost, total_net, Offer, Problem, units_of, target}
-use Rattle.rules.specs.Offers.{Given, Proper, Available, Chosen, Among, Ascends}
+use Rattle.rules.specs.Offers.{Given, Proper, Available, Chosen, Among}
 use Rattle.rules.specs.Choice.{priced_cost, choice, least_tied, least_priced_cost, choices, dual_value}
 use Rattle.rules.proofs.Lists.{pairwise_more, pairwise_map}
 use Rattle.fields.specs.Integers.{Is}
 use Rattle.fields.proofs.Integers.{ints, is_pos, is_add}
-use Rattle.rules.specs.Sound.{Sound}
 use Rattle.rules.proofs.Economics.Chosen.{some-among, scanned}
 use Rattle.rules.proofs.Economics.Quantities.{priced-is, net_monotone}
 use Rattle.rules.proofs.Economics.Duality.{Relaxation}

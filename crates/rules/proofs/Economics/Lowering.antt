@@ -2,7 +2,7 @@
 use mathlib.Core.Path.{◌≡◌, refl, ap, ◌∙◌}
 use mathlib.Core.Bool.{Bool, true, false, cond}
 use mathlib.Core.List.{List, [], ◌∷◌, ◌++◌, map}
-use Prim.Native.Nat.{ℕ, suc, ◌+◌, ◌*◌, ◌-◌, ◌≤◌, ◌<◌}
+use Prim.Native.Nat.{ℕ, suc, ◌+◌, ◌-◌, ◌≤◌, ◌<◌}
 use native.Mathlib.Nat.{mul-le-mul_left}
 use native.Mathlib.Decide.{dec_le}
 use native.Mathlib.Omega.{arith}
@@ -10,7 +10,7 @@ use lib.Dec.{leb}
 use lib.ListN.{length, get_or, take}
 use borrow.Author.Tests.{leb-true, leb-false, le-leb, lt-leb}
 use Rattle.rules.specs.Unit.{Unit, cost, net}
-use Rattle.rules.specs.Problem.{total_cost, total_net, Offer, Problem, units_of, target}
+use Rattle.rules.specs.Problem.{total_net, Offer, Problem, units_of, target}
 use Rattle.rules.specs.Choice.{choice, least_tied, choices, lowered, selected}
 use Rattle.rules.specs.Lowering.{Saves, InFileOrder, MoreSlack}
 use Rattle.fields.proofs.Integers.{ints}

@@ -7,7 +7,7 @@ use Prim.Native.Nat.{ℕ, zero, suc, ◌≤◌, ◌<◌}
 use native.Mathlib.Omega.{arith}
 use lib.Dec.{leb, eqb}
 use borrow.Author.Tests.{leb-true, le-leb, ne_eqb}
-use Rattle.rules.specs.Lists.{each, filter, all, greatest}
+use Rattle.rules.specs.Lists.{each, filter, all}
 use Rattle.rules.specs.Unit.{Unit, zones, permitted, running_output, strictly_inside, in_ramp_window}
 use Rattle.rules.specs.Problem.{offer}
 use Rattle.rules.proofs.Verdicts.{and-true, eqb_is_true}

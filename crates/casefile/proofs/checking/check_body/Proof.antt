@@ -1,6 +1,5 @@
 -- `casefile::checking::check_body` meets its contract.
 use mathlib.Core.Path.{ap, sym, ◌∙◌}
-use borrow.Author.Tests.{not-true, not-false}
 use borrow.Author.Rules.{rules}
 use Rattle.rules.specs.Refusal.{zone_count_invalid, unit_verdict}
 use Rattle.bodies.specs.Clauses.{BodyFits}

@@ -3,7 +3,6 @@ use Prim.Native.Nat.{◌≤◌, ◌-◌}
 use native.Mathlib.Omega.{arith}
 use mathlib.Core.Bool.{true, false}
 use mathlib.Core.Path.{◌≡◌, refl, ap₂, sym, ◌∙◌}
-use borrow.Author.Tests.{not-true, not-false}
 use Rattle.rules.specs.Layout.{edition, size, count}
 use Rattle.rules.specs.Refusal.{legal_size}
 use Rattle.casefile.proofs.Contents.{Passed, contents-short, contents-offset, contents-size, contents-end, passed-more}

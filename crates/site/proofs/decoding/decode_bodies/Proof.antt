@@ -5,7 +5,6 @@ use mathlib.Core.Path.{◌≡◌, ap, ap₂, sym, ◌∙◌}
 use mathlib.Core.Logic.{⊎_elim}
 use lib.ListN.{length}
 use borrow.Author.Rules.{rules}
-use borrow.Author.Tests.{not-true, not-false}
 use Rattle.rules.specs.Layout.{unit_of_body}
 use Rattle.rules.specs.Refusal.{zone_count_invalid, unit_verdict, body_verdict}
 use Rattle.rules.specs.declared.Verdict.{Verdict}

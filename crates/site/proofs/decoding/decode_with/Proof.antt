@@ -3,11 +3,8 @@ use Prim.Native.Nat.{◌-◌, ◌≤◌}
 use native.Mathlib.Omega.{arith}
 use mathlib.Core.Path.{◌≡◌, refl, ap₂, ◌∙◌}
 use mathlib.Core.Logic.{⊎_elim}
-use lib.ListN.{length, get_or}
 use borrow.Author.Rules.{rules}
-use borrow.Author.Tests.{not-true, not-false}
 use Rattle.rules.specs.Unit.{with_previous}
-use Rattle.rules.specs.Layout.{count, unit_at}
 use Rattle.rules.proofs.Sound.{sound-previous}
 use Rattle.rules.proofs.Encoding.SoundFile.{sound-file, unit_at_sound}
 use Rattle.unit.specs.UnitHeld.{unit_held}
