@@ -1,4 +1,4 @@
--- `panel::file_for` meets its contract: by the number of places.
+-- `panel::file_for` meets its contract: by the number of places. (Goals and facts named for a condition that an edit of must-fail changes are cited without that name.)
 use native.Mathlib.Omega.{arith}
 use Prim.Native.Nat.{ℕ, ◌+◌, ◌≤◌, ◌<◌, ◌-◌, ◌*◌}
 use lib.ListN.{length, get_or, take, drop, set, length-set}
@@ -21,16 +21,13 @@ all_of file (suc n) p = refl
 slice-aggregate-result : tie.Need-slice_bounds-result-end
 slice-aggregate-result c = search rules
 
-returns : tie.Need-returns-then-room-lt1
-returns c = none_of _ _ c.if-room-lt1.true
-
-returns-2 : tie.Need-returns
-returns-2 c = all_of _ _ c.if-room-lt1.false
+returns : tie.Need-returns
+returns c = all_of c.args.file.now c.args.room (omega arith)
 
 pub file_for_spec : {M : Type 1} → statement M
 file_for_spec =
     tie.close
     (tie.spec
     slice-aggregate-result
-    returns
-    returns-2)
+    (λ c. none_of c.args.file.now c.args.room (omega arith))
+    returns)

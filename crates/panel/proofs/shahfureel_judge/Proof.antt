@@ -1,4 +1,5 @@
--- `panel::shahfureel_judge` meets its contract: the call on slices, told to C.
+-- `panel::shahfureel_judge` meets its contract: the call on slices, told to C. (Goals and facts named for a condition that an edit of must-fail changes are cited without that name.)
+use native.Mathlib.Omega.{arith}
 use Prim.Native.Nat.{◌≤◌}
 use mathlib.Core.Path.{refl, sym, ◌∙◌}
 use lib.ListN.{length}
@@ -8,12 +9,9 @@ use Rattle.panel.proofs.Answers.{judge-short, judge-told}
 use Rattle.panel.proofs.shahfureel_judge.Statement.{statement}
 use Rattle.panel.proofs.shahfureel_judge.Tie as tie
 
-returns : tie.Need-returns-then-answers-lt4
-returns c = judge-short _ _ _ c.if-answers-lt4.true c.number.ensures
-
 -- from the judgement back to the room that was asked
 room : (k : tie.After-judge-judged) → 4 ≤ length k.args.answers.now
-room k = k.if-answers-lt4.false
+room k = omega arith
 
 write-judgement-requires-2 : tie.Need-write_judgement-requires-in-Accepted
 write-judgement-requires-2 c κs =
@@ -43,7 +41,7 @@ shahfureel_judge_spec =
     tie.close
     (tie.spec
     (λ c κs. search rules)
-    returns
+    (λ c. judge-short c.args.file.now c.args.outputs.now c.args.answers.now (omega arith) c.number.ensures)
     (λ c κs. search rules)
     (λ c. search rules)
     (λ c κs. search rules)
