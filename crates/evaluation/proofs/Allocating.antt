@@ -2,7 +2,7 @@
 use mathlib.Core.Bool.{Bool, true, false, cond}
 use mathlib.Core.Path.{◌≡◌, refl, sym, ap, ap₂, ◌∙◌, subst}
 use mathlib.Core.List.{List, [], ◌∷◌, ◌++◌, map, append_assoc, append-nil}
-use Prim.Native.Nat.{ℕ, ◌+◌, ◌*◌, ◌-◌, ◌≤◌, ◌<◌}
+use Prim.Native.Nat.{ℕ, ◌+◌, ◌≤◌, ◌<◌}
 use native.Mathlib.Numerals.{add-one}
 use native.Mathlib.Omega.{arith}
 use lib.ListN.{length, get_or, take, drop, set, length-set, drop_of_length-le}
@@ -11,7 +11,6 @@ use Rattle.rules.specs.Unit.{Unit, cost, net}
 use Rattle.rules.specs.Problem.{total_cost, total_net, Offer, Problem, units_of}
 use Rattle.rules.proofs.Economics.Quantities.{cost-range, net-range}
 use Rattle.site.specs.Site.{Coefficients, no_offer, HoldsOffer, HoldsProblem}
-use Rattle.evaluation.specs.declared.Sums as code
 use Rattle.evaluation.specs.Clauses.{SiteHeld, HoldsOutputs, HoldsEach, Sized, Allocates}
 
 module _ (pick : Offer → ℕ) where

@@ -9,7 +9,7 @@ use lib.IntN.{ℤ}
 use lib.ListN.{length}
 use borrow.Author.Tests.{lt-ltb, le-ltb, lt-leb, le-leb}
 use Rattle.rules.specs.Lists.{all, greatest}
-use Rattle.rules.specs.Problem.{Offer, Problem, total_net, units_of, target, problem_in}
+use Rattle.rules.specs.Problem.{Offer, Problem, target, problem_in}
 use Rattle.rules.specs.Choice.{choice, choices}
 use Rattle.rules.specs.Bisection.{greatest_outputs, solvable}
 use Rattle.rules.specs.Calls.{case_verdict, price_verdict, price_ends, priced}

@@ -5,7 +5,6 @@ use lib.IntN.{ℤ, pos, ◌-ℤ◌}
 use Rattle.rules.specs.Numbers.{natural}
 use Rattle.rules.specs.Bisection.{reply_of}
 use Rattle.bisection.specs.declared.steps.Found as code-found
-use Rattle.solving.specs.declared.Reply as code-reply
 use Rattle.solving.specs.Clauses.{States}
 
 -- with the distance of the cost above the floor as its gap

@@ -1,6 +1,5 @@
 -- `evaluation::step_one::step1` meets its contract: the greatest outputs cover, or do not (`Covering`).
 use native.Mathlib.Omega.{arith}
-use borrow.Author.Rules.{rules}
 use Rattle.evaluation.proofs.Covering.{uncovered, covered}
 use Rattle.evaluation.proofs.step_one.step1.Statement.{statement}
 use Rattle.evaluation.proofs.step_one.step1.Tie as tie
