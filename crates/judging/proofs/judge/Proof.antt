@@ -1,5 +1,5 @@
 -- `judging::judge` meets its contract: each return is one end of the definition (`Judgements`).
-use mathlib.Core.Path.{◌≡◌, sym, subst, ◌∙◌}
+use mathlib.Core.Path.{◌≡◌, sym, ◌∙◌}
 use lib.ListN.{length}
 use borrow.Author.Rules.{rules}
 use Rattle.evaluation.specs.Clauses.{First}

@@ -1,4 +1,6 @@
--- `judging::judge_outputs` meets its contract: each way out is one of `Outcomes`.
+-- `judging::judge_outputs` meets its contract: each way out is one of `Outcomes`. (Goals and facts named for a condition that an edit of must-fail changes are cited without that name.)
+use Prim.Native.Nat.{◌≤◌}
+use native.Mathlib.Omega.{arith}
 use mathlib.Core.Path.{◌∙◌, ap, subst}
 use lib.IntN.{ℤ, pos, ◌-ℤ◌}
 use mir.Syntax.{w64}
@@ -23,36 +25,29 @@ sums c =
     let a = (entry (summed c)).args in
     subst (SumTold a.coefficients.now a.ends.now a.ranges.now a.n a.outputs.now) c.in-Permitted.is (summed c).sum_outputs-sums.ensures
 
-returns : tie.Need-returns-then-net-target
-returns c = uncovered (sums c.before) c.if-net-target.true
-
 -- from after the search back to it, and to the cover
 abbrev searched : tie.After-struct_told-1 → tie.After-search-found
 searched c = c.before.before
 
-abbrev covered : tie.After-struct_told-1 → tie.Else-net-target
-covered c = (searched c).before.before
+abbrev permitted : tie.After-struct_told-1 → tie.In-Permitted
+permitted c = (searched c).before.before.before
+
+covered : (c : tie.After-struct_told-1) → (entry (summed (permitted c))).args.target ≤ (permitted c).in-Permitted.net
+covered c = omega arith
 
 floor-fits : (c : tie.After-struct_told-1) → SFits w64 (searched c).search-found.result.floor
 floor-fits c = search rules
 
 distance-requires : tie.Need-distance-requires
 distance-requires c κs =
-    let e = covered c in
-    rw (to_z-of_z {w = w64} (floor-fits c)) (measurable (sums e.before) e.if-net-target.false (searched c).search-found.ensures (entry (summed e.before)).requires.0)
+    let b = permitted c in
+    rw (to_z-of_z {w = w64} (floor-fits c)) (measurable (sums b) (covered c) (searched c).search-found.ensures (entry (summed b)).requires.0)
 
 returns-2 : tie.Need-returns-in-NotPermitted
 returns-2 c =
     let d = c in
     let a = (entry d.before).args in
     unpermitted (subst (SumTold a.coefficients.now a.ends.now a.ranges.now a.n a.outputs.now) c.in-NotPermitted.is d.sum_outputs-sums.ensures)
-
-returns-3 : tie.Need-returns-else-net-target
-returns-3 c =
-    let b = c in
-    let e = covered b.before in
-    accepted (sums e.before) e.if-net-target.false (searched b.before).search-found.ensures
-    (c.distance.ensures ∙ ap (λ (z : ℤ). natural (pos e.in-Permitted.cost -ℤ z)) (to_z-of_z {w = w64} (floor-fits b.before)))
 
 pub judge_outputs_spec : {M : Type 1} → statement M
 judge_outputs_spec =
@@ -61,9 +56,12 @@ judge_outputs_spec =
     (λ c κs. search rules)
     (λ c. search rules)
     (λ c. search rules)
-    returns
+    (λ c. uncovered (sums c.before) (omega arith))
     (λ c. search rules)
     (λ c κs. search rules)
     distance-requires
     returns-2
-    returns-3)
+    (λ c.
+    let t = c.before in
+    accepted (sums (permitted t)) (covered t) (searched t).search-found.ensures
+    (c.distance.ensures ∙ ap (λ (z : ℤ). natural (pos c.in-Permitted.cost -ℤ z)) (to_z-of_z {w = w64} (floor-fits t)))))

@@ -2,7 +2,6 @@
 use Prim.Native.Nat.{ℕ, ◌+◌, ◌-◌, ◌≤◌, ◌<◌}
 use native.Mathlib.Omega.{arith}
 use lib.ListN.{get_or}
-use borrow.Author.Tests.{not-true, not-false}
 use Rattle.rules.proofs.Economics.Quantities.{cost-range}
 use Rattle.site.specs.Site.{first, last, Within, no_offer, HoldsOffer}
 use Rattle.evaluation.specs.Clauses.{Sized}

@@ -1,9 +1,14 @@
--- `nodes::evaluate_node` meets its contract: closed, dispatched, or confirmed (`NodeEvaluated`).
+-- `nodes::evaluate_node` meets its contract: closed, dispatched, or confirmed (`NodeEvaluated`). (Goals and facts named for a condition that an edit of must-fail changes are cited without that name.)
 use borrow.Author.Rules.{rules}
 use native.Mathlib.Omega.{arith}
-use mathlib.Core.Path.{refl}
-use Rattle.rules.specs.Problem.{target}
-use Rattle.nodes.specs.Clauses.{Confirms}
+use Prim.Native.Nat.{ℕ}
+use mathlib.Core.Path.{◌≡◌, refl}
+use mathlib.Core.List.{List}
+use Rattle.nodes.specs.declared.Progress as code-progress
+use Rattle.nodes.specs.declared.Limits as code-limits
+use Rattle.nodes.specs.declared.Node as code-node
+use Rattle.nodes.specs.declared.NodeEvaluation as code-evaluation
+use Rattle.nodes.specs.Clauses.{Confirms, DispatchesNode, EvaluatesNode}
 use Rattle.nodes.proofs.NodeEvaluated.{known_proves, confirmed_dispatch, confirmed_outputs, takes_cheaper, takes_none, counts_only, sums-dualable}
 use Rattle.nodes.proofs.evaluate_node.Statement.{statement}
 use Rattle.nodes.proofs.evaluate_node.Tie as tie
@@ -19,46 +24,34 @@ known-floor-requires c κs =
 counted-requires : tie.Need-counted-requires
 counted-requires c κs = search rules
 
--- ---- closed
-
-returns : tie.Need-returns-then-floor-known
-returns c =
-    let t = c in
-    let k = t in
-    let s = (entry k.before.before).requires in
-    record {
-      multiplier = s.multiplier;
-      evaluates = λ d y of p held. counts_only held (λ some. omega (arith, known_proves s.multiplier _ of.0 of.1 k.known_floor-floor.ensures some, t.if-floor-known.true, held.cost)) refl c.counted.ensures;
-    }
-
 -- ---- dispatched
+
+-- a dispatch of every node is one of those whose sums x has
+dispatched :
+    (coefficients ends ranges : List ℕ) (l : code-limits.Limits) (x : code-node.Node) (s : code-progress.Progress) (before : List ℕ) (r : code-evaluation.NodeEvaluation) (after : List ℕ)
+    → DispatchesNode coefficients ends ranges l x.parent s before r after → EvaluatesNode coefficients ends ranges l x s before r after
+dispatched coefficients ends ranges l x s before r after e = record { multiplier = e.multiplier; evaluates = λ d y b p held. e.evaluates d y b.0 p held }
 
 dispatch-node-requires : tie.Need-dispatch_node-requires
 dispatch-node-requires c κs = search rules
 
 returns-2 : tie.Need-returns-then-short-target
-returns-2 c = record { multiplier = c.dispatch_node.ensures.multiplier; evaluates = λ d y b p held. c.dispatch_node.ensures.evaluates d y b.0 p held }
+returns-2 c = dispatched c.args.coefficients.now c.args.ends.now c.args.ranges.now c.args.l c.args.x c.args.s _ _ _ c.dispatch_node.ensures
 
 dispatch-node-requires-2 : tie.Need-dispatch_node-requires-then-net-target
 dispatch-node-requires-2 c κs = search rules
 
 returns-3 : tie.Need-returns-then-net-target
-returns-3 c = record { multiplier = c.dispatch_node-then-net-target.ensures.multiplier; evaluates = λ d y b p held. c.dispatch_node-then-net-target.ensures.evaluates d y b.0 p held }
-
-dispatch-node-requires-3 : tie.Need-dispatch_node-requires-then-ties-ne0
-dispatch-node-requires-3 c κs = search rules
-
-returns-4 : tie.Need-returns-then-ties-ne0
-returns-4 c = record { multiplier = c.dispatch_node-then-ties-ne0.ensures.multiplier; evaluates = λ d y b p held. c.dispatch_node-then-ties-ne0.ensures.evaluates d y b.0 p held }
+returns-3 c = dispatched c.args.coefficients.now c.args.ends.now c.args.ranges.now c.args.l c.args.x c.args.s _ _ _ c.dispatch_node-then-net-target.ensures
 
 -- ---- confirmed
 
-module _ (c : tie.Else-ties-ne0) where
+module _ (c : tie.Else-net-target) where
   abbrev known : tie.After-known_floor-floor
-  known = c.before.before.before.before
+  known = c.before.before.before
 
-  confirmed : let x = (entry known).args.x in Confirms x.low x.high (entry known).args.l.target
-  confirmed = record { short = c.if-short-target.false; covers = c.if-net-target.false; alone = omega (arith, c.if-ties-ne0.false) }
+  confirmed : let x = (entry known).args.x in x.high.ties ≡ 0 → Confirms x.low x.high (entry known).args.l.target
+  confirmed alone = record { short = c.if-short-target.false; covers = c.if-net-target.false; alone = alone }
 
 add-evaluate : tie.Need-overflow_add-multiplier
 add-evaluate c = search rules
@@ -68,7 +61,7 @@ slice-aggregate-evaluate c = search rules
 
 evaluate-requires : tie.Need-evaluate-requires
 evaluate-requires c κs =
-    let s = (entry (known c.before.before.before)).requires in
+    let s = (entry (known c.before.before.before.before)).requires in
     (record { held = record { problem = s.problem; holds = s.holds.problem }; multiplier = omega (arith, s.multiplier) }, search rules, search rules)
 
 taken-requires : tie.Need-taken-requires
@@ -79,12 +72,14 @@ returns-5 c =
     let e = c in
     let t = e in
     let b = t in
-    let k = known b.before.before.before.before.before.before in
+    let n = b.before.before.before.before.before.before.before in
+    let k = known n in
+    let w = confirmed n (omega arith) in
     let s = (entry k).requires in
     rw c.taken.ensures
     (record {
       multiplier = s.multiplier;
-      evaluates = λ d y of p held. takes_cheaper (confirmed_dispatch s.multiplier _ of.0 of.1 k.known_floor-floor.ensures (confirmed b.before.before.before.before.before.before)) held t.if-cost-known.true (confirmed_outputs s.multiplier _ of.0 of.1 k.known_floor-floor.ensures (confirmed b.before.before.before.before.before.before) e.evaluate.ensures.allocates);
+      evaluates = λ d y of p held. takes_cheaper (confirmed_dispatch s.multiplier _ of.0 of.1 k.known_floor-floor.ensures w) held t.if-cost-known.true (confirmed_outputs s.multiplier _ of.0 of.1 k.known_floor-floor.ensures w e.evaluate.ensures.allocates);
     })
 
 taken-requires-2 : tie.Need-taken-requires-2
@@ -94,12 +89,14 @@ returns-6 : tie.Need-returns
 returns-6 c =
     let t = c in
     let b = t in
-    let k = known b.before.before in
+    let n = b.before.before.before in
+    let k = known n in
+    let w = confirmed n (omega arith) in
     let s = (entry k).requires in
     rw c.taken-2.ensures
     (record {
       multiplier = s.multiplier;
-      evaluates = λ d y of p held. takes_none (confirmed_dispatch s.multiplier _ of.0 of.1 k.known_floor-floor.ensures (confirmed b.before.before)) held t.if-cost-known.false;
+      evaluates = λ d y of p held. takes_none (confirmed_dispatch s.multiplier _ of.0 of.1 k.known_floor-floor.ensures w) held t.if-cost-known.false;
     })
 
 pub evaluate_node_spec : {M : Type 1} → statement M
@@ -108,13 +105,18 @@ evaluate_node_spec =
     (tie.spec
     known-floor-requires
     counted-requires
-    returns
+    (λ c.
+    let s = (entry c.before.before).requires in
+    record {
+      multiplier = s.multiplier;
+      evaluates = λ d y of p held. counts_only held (λ some. omega (arith, known_proves s.multiplier _ of.0 of.1 c.known_floor-floor.ensures some, held.cost)) refl c.counted.ensures;
+    })
     dispatch-node-requires
     returns-2
     dispatch-node-requires-2
     returns-3
-    dispatch-node-requires-3
-    returns-4
+    (λ c κs. search rules)
+    (λ c. dispatched c.args.coefficients.now c.args.ends.now c.args.ranges.now c.args.l c.args.x c.args.s _ _ _ (search rules))
     add-evaluate
     slice-aggregate-evaluate
     evaluate-requires
