@@ -1,28 +1,25 @@
 -- What specs/Claims states, proved: where operations lead (`Course`), and what the search has there (`Progress`).
-use Prim.Native.Nat.{ℕ, zero, suc, ◌+◌, ◌-◌, ◌*◌, max, min, ◌≤◌, ◌<◌}
+use Prim.Native.Nat.{ℕ, suc, ◌-◌, ◌*◌, min, ◌≤◌}
 use native.Mathlib.Decide.{dec_le}
 use native.Mathlib.Omega.{arith}
 use mathlib.Core.Path.{◌≡◌, refl, sym, ap, ap₂, ◌∙◌, subst, subst⁻¹}
 use mathlib.Core.Bool.{Bool, true, false, cond, true≢false}
 use mathlib.Core.List.{List, [], ◌∷◌, ◌++◌}
-use mathlib.Core.Logic.{◌↔◌, ◌⊎◌, ⊎_elim}
-use lib.Dec.{leb, ltb, eqb}
+use mathlib.Core.Logic.{◌↔◌}
+use lib.Dec.{leb, eqb}
 use lib.IntN.{ℤ, pos, ◌-ℤ◌}
 use lib.ListN.{length, take, drop, replicate}
 use lib.Seq.{take_at, take-append_seam}
-use lib.Signed.{◌≤ℤ◌}
 use borrow.Author.Tests.{le-leb, lt-leb, le-ltb, eq-eqb}
 use Rattle.fields.proofs.Integers.{ints, is_pos}
-use Rattle.rules.specs.Lists.{over, True}
 use Rattle.rules.specs.Numbers.{natural}
 use Rattle.rules.specs.Layout.{case_of}
 use Rattle.rules.specs.Problem.{Problem, total_cost, total_net, units_of, target, problem_in}
 use Rattle.rules.specs.Choice.{floor, greatest_floor}
-use Rattle.rules.specs.Bisection.{Reply, solvable, found, reply_of, solve}
-use Rattle.rules.specs.Stages.{Stage, finished, Standing}
-use Rattle.rules.specs.Refusal.{◌refuses◌}
+use Rattle.rules.specs.Bisection.{solvable, found, reply_of, solve}
+use Rattle.rules.specs.Stages.{Standing}
 use Rattle.rules.specs.Calls.{case_verdict, dispatch_verdict, dispatch_ends, dispatched}
-use Rattle.rules.specs.Promise.{Permitted, Covering, cost_less_gap, reply_in}
+use Rattle.rules.specs.Promise.{reply_in}
 use Rattle.rules.specs.declared.Refusal.{Refusal}
 use Rattle.rules.specs.declared.Refusal.TheVariants.{CaseChanged}
 use Rattle.rules.specs.declared.Verdict.{Verdict}
@@ -36,12 +33,12 @@ use Rattle.stepping.specs.declared.Started.{Started}
 use Rattle.stepping.specs.declared.Advanced.{Advanced}
 use Rattle.stepping.specs.declared.State.{State}
 use Rattle.stepping.specs.declared.Asked.{Asked}
-use Rattle.stepping.specs.Runs.{Run, run_in, numbers_of, unstarted, flag, is_finished, begun, held, same, run_from, evaluated, StartResult, start_ends, started, AdvanceResult, advance_ends, advanced_by, asked, Operation, start, advance, ask, Answer, starts, advances, asks, Lent, answer_to, lent_after, answers_of, performed}
+use Rattle.stepping.specs.Runs.{Run, run_in, numbers_of, flag, is_finished, begun, held, same, run_from, evaluated, StartResult, start_ends, started, AdvanceResult, advance_ends, advanced_by, asked, Operation, start, advance, ask, Answer, starts, advances, asks, Lent, answer_to, lent_after, answers_of, performed}
 use Rattle.stepping.specs.Claims.{after_of, run_after, Course, none, since, start_turns, turned, course_of, StartsRefused, numbers_at, Stands, zeros, Follows, StartForgets, NotStarted, evaluations_of, reply_asked, Best, Moment, EachMoment, Improves, FinishedStays, AsksChangeNothing, AskChangesNothing, Keeps}
 use Rattle.stepping.proofs.Gaps.{gap-less, gap-natural}
 use Rattle.stepping.proofs.Comparing.{same-equal, equal-same, unequal_same}
 use Rattle.stepping.proofs.Endings.{start-refused, ask-unstarted, ask-begun, advance-unstarted, advance-changed, advance-refused}
-use Rattle.stepping.proofs.Course.{Known, unfinished-flag, unstarted-not, advanced-on, followed, begins, sound, proper, permitted, best-length, count-is, floor-below}
+use Rattle.stepping.proofs.Course.{Known, unfinished-flag, advanced-on, followed, begins, sound, proper, permitted, best-length, count-is, floor-below}
 use Rattle.stepping.proofs.Progress.{after_of_finished, after_of_not_finished, after_of_count_until, after_of_count_from, finished-best, finished-evaluated, finished-length, finished-floor, after_of_covers, after_of_cheaper, after_of_floor, so_far_evaluated, so_far_rises}
 
 -- ---- of any numbers

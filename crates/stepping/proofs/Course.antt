@@ -1,30 +1,28 @@
 -- The run of an accepted file after k advances: its numbers fit together, one evaluation of it is the run after k + 1, and so a run is where its operations lead.
-use Prim.Native.Nat.{ℕ, zero, suc, ◌+◌, ◌-◌, ◌*◌, ◌^◌, max, ◌≤◌, ◌<◌}
+use Prim.Native.Nat.{ℕ, zero, suc, ◌+◌, ◌*◌, ◌^◌, ◌≤◌}
 use native.Mathlib.Decide.{dec_le}
 use native.Mathlib.Nat.{pow-suc}
 use native.Mathlib.Numerals.{add-one}
 use native.Mathlib.Omega.{arith}
-use mathlib.Core.Path.{◌≡◌, refl, sym, ap, ap₂, ◌∙◌, subst, subst⁻¹}
-use mathlib.Core.Bool.{Bool, true, false, cond, ◌&&◌, ◌||◌}
+use mathlib.Core.Path.{◌≡◌, refl, sym, ap, ap₂, ◌∙◌}
+use mathlib.Core.Bool.{Bool, true, false, cond, ◌||◌}
 use mathlib.Core.List.{List, [], ◌∷◌, ◌++◌}
 use mathlib.Core.Logic.{◌⊎◌, inl, inr, ⊎_elim}
-use lib.Dec.{leb, ltb, eqb}
-use lib.IntN.{ℤ, pos}
-use lib.ListN.{length, take, drop, replicate, length-map}
-use lib.Pow.{pow_pos, pow_mono}
+use lib.Dec.{leb, eqb}
+use lib.ListN.{length, drop, replicate, length-map}
+use lib.Pow.{pow_mono}
 use lib.Seq.{take-append_seam}
-use borrow.Author.Tests.{le-leb, lt-leb, lt-ltb, le-ltb, eq-eqb, ne_eqb}
+use borrow.Author.Tests.{le-leb, lt-ltb}
 use Rattle.rules.specs.Lists.{all, over, Every, True}
-use Rattle.rules.specs.Numbers.{natural}
 use Rattle.rules.specs.Layout.{case_of}
 use Rattle.rules.specs.Sound.{Sound}
-use Rattle.rules.specs.Offers.{Given, Proper}
+use Rattle.rules.specs.Offers.{Proper}
 use Rattle.rules.specs.Refusal.{file_verdict}
 use Rattle.rules.specs.Problem.{Problem, total_cost, total_net, units_of, target, problem_in, problem_of, offer}
 use Rattle.rules.specs.Promise.{Permitted}
 use Rattle.rules.specs.Choice.{selected, floor}
-use Rattle.rules.specs.Bisection.{solvable, greatest_outputs, found}
-use Rattle.rules.specs.Stages.{Stage, at_zero, at_top, halving, finished, next_multiplier, Standing, standing_first, evaluated_next, stage_after, advanced, after}
+use Rattle.rules.specs.Bisection.{solvable, greatest_outputs}
+use Rattle.rules.specs.Stages.{Stage, at_zero, at_top, halving, finished, next_multiplier, Standing, evaluated_next}
 use Rattle.rules.specs.Calls.{case_verdict}
 use Rattle.rules.specs.declared.Verdict.{Verdict}
 use Rattle.rules.proofs.Verdicts.{and-true}
@@ -37,8 +35,8 @@ use Rattle.rules.proofs.Economics.Solvable.{case-proper}
 use Rattle.rules.proofs.Economics.Solution.{same-cost, same-net, given-permitted}
 use Rattle.rules.proofs.Economics.Totals.{total_cost_range, total_net_range}
 use Rattle.stepping.specs.declared.Advanced.{Advanced}
-use Rattle.stepping.specs.Runs.{Run, stage_at, stage_of, width_at, flag, is_finished, low_of, stage_fits, amounts_fit, outputs_fit, begun, run_from, evaluated, run_in, numbers_of, unstarted, state_told, held, same, StartResult, start_ends, started, AdvanceResult, advanced_by, Operation, start, advance, ask, Lent, lent_after, performed}
-use Rattle.stepping.specs.Claims.{greatest_so_far, after_of, run_at, run_after, Course, none, since, start_turns, turned, course_of, numbers_at, Stands}
+use Rattle.stepping.specs.Runs.{Run, stage_at, stage_of, width_at, flag, is_finished, low_of, stage_fits, outputs_fit, begun, run_from, evaluated, run_in, numbers_of, unstarted, state_told, held, same, StartResult, start_ends, started, AdvanceResult, advanced_by, Operation, start, advance, ask, Lent, lent_after, performed}
+use Rattle.stepping.specs.Claims.{greatest_so_far, after_of, run_at, run_after, Course, none, since, start_turns, turned, course_of, Stands}
 use Rattle.stepping.proofs.Widths.{width_power}
 use Rattle.stepping.proofs.Endings.{advance-unstarted, advance-changed, advance-finished, advance-made}
 use Rattle.stepping.proofs.Comparing.{same-equal, same-itself}

@@ -1,10 +1,10 @@
 -- Start, advance and ask by where they end: each way out of the code is one case of its definition.
-use Prim.Native.Nat.{ℕ, ◌-◌, ◌≤◌, ◌<◌}
+use Prim.Native.Nat.{ℕ, ◌-◌, ◌≤◌}
 use native.Mathlib.Omega.{arith}
-use mathlib.Core.Path.{◌≡◌, refl, sym, ap, ◌∙◌}
-use mathlib.Core.Bool.{Bool, true, false, cond}
-use mathlib.Core.List.{List, [], ◌∷◌, ◌++◌}
-use lib.Dec.{eqb, leb}
+use mathlib.Core.Path.{◌≡◌, sym, ap, ◌∙◌}
+use mathlib.Core.Bool.{true, false, cond}
+use mathlib.Core.List.{List}
+use lib.Dec.{eqb}
 use lib.ListN.{length, take, replicate}
 use borrow.Author.Tests.{eq-eqb, ne_eqb}
 use Rattle.rules.specs.Lists.{over}
@@ -24,7 +24,7 @@ use Rattle.stepping.specs.declared.Advanced.{Advanced}
 use Rattle.stepping.specs.declared.State.{State}
 use Rattle.stepping.specs.declared.Asked.{Asked}
 use Rattle.stepping.specs.Runs.{Run, run_in, numbers_of, begun, held, same, run_from, start_ends, started, evaluated, state_told, advance_ends, advanced_by, asked}
-use Rattle.stepping.specs.Clauses.{run_of, Evaluates}
+use Rattle.stepping.specs.Clauses.{run_of}
 
 -- the greatest outputs cover
 pub first-covers : {file coefficients ends ranges outputs : List ℕ} {n t c w : ℕ} → First file coefficients ends ranges outputs n t c w → t ≤ w

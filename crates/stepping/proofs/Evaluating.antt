@@ -1,23 +1,22 @@
 -- One evaluation of a run: the search is asked for one more (`Advancing`), and what it then holds is the run's next state by the definition.
 -- The run's own best may be any outputs: the standing that the search is asked about has 33 zeros instead, which no allocation is, so that what it holds afterwards tells whether the evaluation covered.
-use Prim.Native.Nat.{ℕ, zero, suc, ◌+◌, ◌-◌, ◌*◌, ◌^◌, max, ◌≤◌, ◌<◌}
+use Prim.Native.Nat.{ℕ, suc, ◌+◌, ◌-◌, max, ◌≤◌, ◌<◌}
 use native.Mathlib.Decide.{dec_le}
 use native.Mathlib.Omega.{arith}
 use mathlib.Core.Path.{◌≡◌, refl, sym, ap, ap₂, ◌∙◌, subst, subst⁻¹}
-use mathlib.Core.Bool.{Bool, true, false, cond}
+use mathlib.Core.Bool.{cond}
 use mathlib.Core.List.{List, [], ◌∷◌, ◌++◌}
-use mathlib.Core.Logic.{◌⊎◌, ⊎_elim}
+use mathlib.Core.Logic.{⊎_elim}
 use lib.Dec.{leb, eqb}
 use lib.IntN.{ℤ, pos, negsuc}
-use lib.ListN.{length, take, drop, replicate, length-take}
+use lib.ListN.{length, drop, replicate, length-take}
 use lib.Pow.{pow_pos}
 use lib.Signed.{le_z}
 use borrow.Author.Tests.{le-leb, lt-leb, ne_eqb, eq-eqb}
-use Rattle.rules.specs.Lists.{over}
 use Rattle.rules.specs.Numbers.{natural}
-use Rattle.rules.specs.Problem.{Offer, Problem, total_cost, total_net, units_of, target}
+use Rattle.rules.specs.Problem.{Offer, Problem, total_net, units_of, target}
 use Rattle.rules.specs.Choice.{selected, floor}
-use Rattle.rules.specs.Stages.{Stage, at_zero, at_top, halving, finished, next_multiplier, Standing, best_of, stage_after, advanced, evaluated_next}
+use Rattle.rules.specs.Stages.{Stage, at_zero, at_top, halving, finished, next_multiplier, Standing, stage_after, advanced, evaluated_next}
 use Rattle.rules.specs.Offers.{Given}
 use Rattle.rules.proofs.Economics.Allocations.{tied-given}
 use Rattle.rules.proofs.Economics.Lowering.{selected-tied}
@@ -27,12 +26,12 @@ use Rattle.evaluation.specs.Clauses.{HoldsOutputs}
 use Rattle.bisection.specs.declared.steps.SearchState as code-state
 use Rattle.bisection.specs.declared.steps.Allocation as code-allocation
 use Rattle.bisection.specs.Clauses.{Holding, Searchable, At, Begun, sums_of, HoldsBest, HoldsStanding, SearchesFrom}
-use Rattle.bisection.proofs.Searching.{closed, opened-stage}
+use Rattle.bisection.proofs.Searching.{opened-stage}
 use Rattle.bisection.proofs.Advancing.{once, advanced-once, all-places}
 use Rattle.stepping.specs.declared.numbers.Numbers.{Numbers}
-use Rattle.stepping.specs.Runs.{Run, stage_of, width_at, flag, is_finished, low_of, begun, evaluated}
-use Rattle.stepping.specs.Clauses.{run_of, Advanceable}
-use Rattle.stepping.proofs.Fitting.{Fitting, fitting, unfinished-at, unfinished-width}
+use Rattle.stepping.specs.Runs.{stage_of, width_at, flag, is_finished, low_of, evaluated}
+use Rattle.stepping.specs.Clauses.{run_of}
+use Rattle.stepping.proofs.Fitting.{Fitting, unfinished-at, unfinished-width}
 
 -- the greater of a floor so far and another one
 pub greater-floor : (n : ℕ) (z : ℤ) → cond (le_z z (pos n)) (pos n) z ≡ pos (max n (natural z))

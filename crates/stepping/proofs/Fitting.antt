@@ -1,8 +1,8 @@
 -- What is known of a run that counts as started: each number's range, and, if it is unfinished, that its numbers are those of its stage.
 use Prim.Native.Nat.{ℕ, zero, suc, ◌+◌, ◌-◌, ◌*◌, ◌^◌, ◌≤◌, ◌<◌}
 use native.Mathlib.Omega.{arith}
-use mathlib.Core.Path.{◌≡◌, refl, sym, ap, ◌∙◌, subst, subst⁻¹}
-use mathlib.Core.Bool.{Bool, true, false, true≢false, ◌&&◌, ◌||◌}
+use mathlib.Core.Path.{◌≡◌, refl}
+use mathlib.Core.Bool.{Bool, true, false, true≢false, ◌||◌}
 use mathlib.Core.List.{List, [], ◌∷◌}
 use mathlib.Core.Logic.{◌⊎◌, inl, inr, ⊎_elim}
 use lib.Dec.{leb, ltb, eqb}
@@ -10,7 +10,6 @@ use lib.ListN.{length, get_or}
 use lib.Pow.{pow_mono, pow_pos}
 use borrow.Author.Tests.{leb-true, ltb-true, eqb-true, eq-eqb, ne_eqb}
 use Rattle.rules.specs.Lists.{all}
-use Rattle.rules.specs.Stages.{Stage, at_zero, at_top, halving, finished}
 use Rattle.rules.proofs.Verdicts.{and-true}
 use Rattle.bisection.specs.Clauses.{At}
 use Rattle.stepping.specs.Runs.{Run, stage_at, stage_of, width_at, stage_fits, amounts_fit, outputs_fit, begun}

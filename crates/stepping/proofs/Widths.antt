@@ -1,8 +1,7 @@
 -- The width after e evaluations is 2 ^ (17 − e).
-use Prim.Native.Nat.{ℕ, ◌+◌, ◌*◌, ◌/◌, ◌^◌, ◌≤◌}
+use Prim.Native.Nat.{ℕ, ◌+◌, ◌/◌, ◌^◌, ◌≤◌}
 use mathlib.Core.Path.{◌≡◌, sym, ap, ◌∙◌}
 use native.Mathlib.Nat.{mul_comm}
-use native.Mathlib.Omega.{arith}
 use lib.Pow.{pow-add, shl-shr, shr_le}
 use Rattle.stepping.specs.Runs.{width_at}
 

@@ -1,5 +1,5 @@
 -- Rules 22.4, 22.7 to 22.11, 23.2 and 23.3 of docs/SPECIFICATION.md: what holds of every list of starts, advances and asks on one run, as statements. (They are proved in proofs/Claims.)
-use Rattle.std.specs.Prelude.{ℕ, zero, suc, ◌+◌, ◌*◌, ◌-◌, max, min, ◌≤◌, Bool, true, false, cond, List, [], ◌∷◌, ◌++◌, ◌≡◌, ◌↔◌, leb, ℤ, pos, length, take, replicate, ◌≤ℤ◌}
+use Rattle.std.specs.Prelude.{ℕ, suc, ◌+◌, ◌*◌, ◌-◌, max, min, ◌≤◌, true, false, cond, List, [], ◌∷◌, ◌++◌, ◌≡◌, ◌↔◌, leb, ℤ, pos, length, take, replicate, ◌≤ℤ◌}
 use Rattle.rules.specs.Lists.{over, True}
 use Rattle.rules.specs.Numbers.{natural}
 use Rattle.rules.specs.Layout.{Case, case_of}
@@ -17,7 +17,7 @@ use Rattle.stepping.specs.declared.Started.{Started}
 use Rattle.stepping.specs.declared.Advanced.{Advanced}
 use Rattle.stepping.specs.declared.State.{State}
 use Rattle.stepping.specs.declared.Asked.{Asked}
-use Rattle.stepping.specs.Runs.{Run, run_in, numbers_of, unstarted, flag, is_finished, low_of, begun, held, same, AdvanceResult, started, advanced_by, asked, Operation, start, advance, ask, Answer, starts, advances, asks, Lent, answers_of, performed}
+use Rattle.stepping.specs.Runs.{Run, run_in, numbers_of, unstarted, flag, is_finished, low_of, begun, held, same, started, advanced_by, asked, Operation, start, advance, ask, Answer, starts, advances, asks, Lent, answers_of, performed}
 
 -- ---- the run of a problem after k advances: what the search has after k evaluations, or after all of them if there are fewer
 

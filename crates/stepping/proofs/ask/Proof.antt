@@ -1,9 +1,8 @@
 -- `stepping::ask` meets its contract: each return is one end of the definition (`Endings`).
 use native.Mathlib.Omega.{arith}
-use mathlib.Core.Path.{◌≡◌, sym, ap, ◌∙◌, subst⁻¹}
+use mathlib.Core.Path.{◌≡◌, sym, ◌∙◌, subst⁻¹}
 use mathlib.Core.Bool.{true}
 use borrow.Author.Rules.{rules}
-use borrow.Author.Tests.{not-true, not-false}
 use Rattle.stepping.specs.Runs.{Run, run_in, begun}
 use Rattle.stepping.specs.Clauses.{run_of}
 use Rattle.stepping.proofs.Fitting.{Fitting, fitting}

@@ -1,11 +1,10 @@
 -- `stepping::evaluate_next` meets its contract: one evaluation more (`Evaluating`).
 use mathlib.Core.Bool.{Bool, true, false}
-use mathlib.Core.List.{List, []}
-use lib.IntN.{ℤ, pos, nat_abs}
+use lib.IntN.{pos, nat_abs}
 use mir.Syntax.{w64}
 use mir.Val.{SFits, bool_byte, to_z, of_z}
 use mir.Facts.{to_z-of_z, to_z_pos}
-use Rattle.bisection.specs.Clauses.{Holding, SearchesFrom}
+use Rattle.bisection.specs.Clauses.{Holding}
 use Rattle.rules.specs.Problem.{Problem}
 use Rattle.rules.specs.Numbers.{natural}
 use Rattle.stepping.specs.Runs.{flag, evaluated}
@@ -13,9 +12,8 @@ use Rattle.stepping.specs.Clauses.{run_of}
 use Rattle.stepping.proofs.Fitting.{Fitting, fitting}
 use Rattle.stepping.proofs.Evaluating.{from_start, numbers_from, begins-at, target_small, floor-kept, evaluates}
 use native.Mathlib.Omega.{arith}
-use Prim.Native.Nat.{ℕ, ◌+◌, ◌≤◌, ◌<◌, ◌-◌, ◌*◌}
-use lib.ListN.{length, get_or, take, drop, set, length-set}
-use mathlib.Core.Path.{◌≡◌, refl, ap, sym, ◌∙◌, subst}
+use Prim.Native.Nat.{◌≤◌}
+use mathlib.Core.Path.{◌≡◌, refl, ap, subst}
 use borrow.Author.Rules.{rules}
 use Rattle.stepping.proofs.evaluate_next.Statement.{statement}
 use Rattle.stepping.proofs.evaluate_next.Tie as tie

@@ -1,5 +1,5 @@
 -- `stepping::same_bytes` meets its contract: the loop counts the places that differ (`Comparing`).
-use Prim.Native.Nat.{ℕ, ◌-◌, ◌≤◌}
+use Prim.Native.Nat.{◌-◌, ◌≤◌}
 use mathlib.Core.Bool.{Bool, true, false, not}
 use mir.Val.{bool_byte}
 use native.Mathlib.Omega.{arith}

@@ -1,15 +1,7 @@
 -- `stepping::start` meets its contract: a case that step 1 refuses leaves the run as it was; one that it accepts begins a run.
 use native.Mathlib.Omega.{arith}
-use Prim.Native.Nat.{ℕ}
-use mathlib.Core.Path.{◌≡◌, ap, ◌∙◌}
-use mathlib.Core.List.{List, ◌++◌}
-use lib.ListN.{length, drop}
-use lib.Seq.{take-length}
 use Rattle.rules.proofs.Demand3.{case-accepted}
 use Rattle.rules.proofs.Encoding.SoundFile.{accepted-length}
-use borrow.Author.Rules.{rules}
-use Rattle.evaluation.specs.Clauses.{First}
-use Rattle.evaluation.proofs.Covering.{first_found, first-refused}
 use Rattle.stepping.proofs.Endings.{first-covers, start-refused, start-begun}
 use Rattle.stepping.proofs.start.Goals as goal
 

@@ -1,5 +1,4 @@
 -- `stepping::numbers::amounts_fit` meets its contract: each return is one test of the definition.
-use borrow.Author.Rules.{rules}
 use borrow.Author.Tests.{lt-leb, le-leb, le-ltb, lt-ltb}
 use native.Mathlib.Omega.{arith}
 use Rattle.stepping.proofs.numbers.amounts_fit.Statement.{statement}

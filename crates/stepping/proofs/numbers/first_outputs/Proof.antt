@@ -1,7 +1,7 @@
 -- `stepping::numbers::first_outputs` meets its contract: the first i outputs are copied (`Copying`).
 use Prim.Native.Nat.{◌-◌}
 use native.Mathlib.Omega.{arith}
-use mathlib.Core.Path.{◌≡◌, sym, ◌∙◌}
+use mathlib.Core.Path.{◌≡◌, sym}
 use lib.ListN.{length, take, replicate}
 use lib.Seq.{length-take-le, get_or-take}
 use borrow.Author.Rules.{rules}

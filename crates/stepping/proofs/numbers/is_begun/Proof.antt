@@ -2,13 +2,9 @@
 use Rattle.stepping.specs.Runs.{Run, run_in, stage_fits, amounts_fit, outputs_fit}
 use Rattle.stepping.proofs.Fitting.{not-one, stage-unfit, amounts-unfit, outputs-decide}
 use Rattle.stepping.proofs.Copying.{part-whole}
-use native.Mathlib.Omega.{arith}
-use Prim.Native.Nat.{ℕ, ◌+◌, ◌≤◌, ◌<◌, ◌-◌, ◌*◌}
-use lib.ListN.{length, get_or, take, drop, set, length-set}
 use mathlib.Core.Bool.{true}
-use mathlib.Core.Path.{◌≡◌, refl, ap, sym, ◌∙◌}
+use mathlib.Core.Path.{◌≡◌, ap, sym, ◌∙◌}
 use borrow.Author.Rules.{rules}
-use borrow.Author.Tests.{not-true, not-false}
 use Rattle.stepping.proofs.numbers.is_begun.Statement.{statement}
 use Rattle.stepping.proofs.numbers.is_begun.Tie as tie
 

@@ -1,10 +1,9 @@
 -- `stepping::numbers::outputs_in` meets its contract: the first i outputs are copied (`Copying`).
-use Prim.Native.Nat.{ℕ, ◌-◌}
+use Prim.Native.Nat.{◌-◌}
 use native.Mathlib.Omega.{arith}
 use mathlib.Core.Path.{refl}
 use lib.Dec.{leb}
 use lib.ListN.{get_or}
-use borrow.Author.Rules.{rules}
 use borrow.Author.Tests.{leb-true}
 use Rattle.stepping.proofs.Fitting.{all-at}
 use Rattle.stepping.proofs.Copying.{Copying, copying_starts, copying_more, copying_ends}

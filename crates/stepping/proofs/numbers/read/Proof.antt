@@ -1,14 +1,12 @@
 -- `stepping::numbers::read` meets its contract.
-use Rattle.stepping.specs.Runs.{Run, run_in, outputs_fit}
+use Rattle.stepping.specs.Runs.{run_in, outputs_fit}
 use Rattle.stepping.proofs.Copying.{part-whole, part-long}
 use Rattle.stepping.proofs.Fitting.{fitting}
 use mathlib.Core.Bool.{true}
 use mathlib.Core.List.{List}
 use mathlib.Core.Path.{subst⁻¹}
-use native.Mathlib.Omega.{arith}
-use Prim.Native.Nat.{ℕ, ◌+◌, ◌≤◌, ◌<◌, ◌-◌, ◌*◌}
-use lib.ListN.{length}
-use mathlib.Core.Path.{◌≡◌, refl, ap, sym, ◌∙◌}
+use Prim.Native.Nat.{ℕ, ◌-◌}
+use mathlib.Core.Path.{◌≡◌, ap, sym, ◌∙◌}
 use borrow.Author.Rules.{rules}
 use Rattle.stepping.proofs.numbers.read.Statement.{statement}
 use Rattle.stepping.proofs.numbers.read.Tie as tie

@@ -2,7 +2,7 @@
 use borrow.Author.Rules.{rules}
 use borrow.Author.Tests.{lt-leb, le-leb, le-ltb, lt-ltb, eq-eqb, ne_eqb}
 use native.Mathlib.Omega.{arith}
-use Prim.Native.Nat.{ℕ, ◌+◌, ◌*◌}
+use Prim.Native.Nat.{◌+◌, ◌*◌}
 use Rattle.stepping.specs.Runs.{width_at}
 use Rattle.stepping.proofs.Widths.{width-range}
 use Rattle.stepping.proofs.numbers.stage_fits.Statement.{statement}

@@ -4,9 +4,9 @@ use Rattle.stepping.specs.Clauses.{run_of}
 use Rattle.stepping.proofs.Copying.{part-long}
 use Rattle.stepping.proofs.Nine.{nine_set, nine_length, nine_then}
 use native.Mathlib.Omega.{arith}
-use Prim.Native.Nat.{ℕ, ◌+◌, ◌≤◌, ◌<◌, ◌-◌, ◌*◌}
+use Prim.Native.Nat.{ℕ, ◌-◌}
 use lib.ListN.{length, length-set}
-use mathlib.Core.Path.{◌≡◌, refl, ap, sym, ◌∙◌}
+use mathlib.Core.Path.{◌≡◌, ap, sym, ◌∙◌}
 use borrow.Author.Rules.{rules}
 use Rattle.stepping.proofs.numbers.write.Statement.{statement}
 use Rattle.stepping.proofs.numbers.write.Tie as tie
