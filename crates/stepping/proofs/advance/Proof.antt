@@ -1,4 +1,4 @@
--- `stepping::advance` meets its contract: each return is one end of the definition (`Endings`).
+-- `stepping::advance` meets its contract: each return is one end of the definition (`Endings`). (Goals and facts named for a condition that an edit of must-fail changes are cited without that name.)
 use Prim.Native.Nat.{ℕ}
 use native.Mathlib.Omega.{arith}
 use mathlib.Core.Path.{◌≡◌, sym, ap, ◌∙◌, subst⁻¹}
@@ -10,7 +10,8 @@ use Rattle.rules.specs.Problem.{problem_in}
 use Rattle.evaluation.specs.Clauses.{First}
 use Rattle.evaluation.proofs.Covering.{first_found, first-refused}
 use Rattle.bisection.proofs.Starting.{holding}
-use Rattle.stepping.specs.Runs.{Run, run_in, begun, held, same, evaluated}
+use Rattle.stepping.specs.declared.Advanced.{Advanced}
+use Rattle.stepping.specs.Runs.{Run, run_in, begun, held, same, evaluated, advanced_by}
 use Rattle.stepping.specs.Clauses.{run_of}
 use Rattle.stepping.proofs.Fitting.{fitting}
 use Rattle.stepping.proofs.Endings.{advance-unstarted, advance-changed, advance-refused, advance-finished, advance-last, advance-more}
@@ -129,15 +130,14 @@ module _ (c : tie.After-write) where
   next : run_of e.evaluate_next-after.result ≡ evaluated (problem_in (entry (d t)).args.file.now) run
   next = e.evaluate_next-after.ensures.held (problem_in (entry (d t)).args.file.now) (holding (first t)) ∙ ap (evaluated (problem_in (entry (d t)).args.file.now)) (read_is (d t))
 
-returns-5 : tie.Need-returns-then-after-eq1
-returns-5 c =
-    let w = c in
-    advance-last _ _ _ (started (d (t w.before.before))) (alike (d (t w.before.before))) (first (t w.before.before)).accepted (unfinished w.before.before) (next w.before.before) w.write.ensures c.if-after-eq1.true
+abbrev finished-after : tie.After-write → ℕ
+finished-after c = c.evaluate_next-after.result.finished
 
-returns-6 : tie.Need-returns-else-after-eq1
-returns-6 c =
-    let w = c in
-    advance-more _ _ _ (started (d (t w.before.before))) (alike (d (t w.before.before))) (first (t w.before.before)).accepted (unfinished w.before.before) (next w.before.before) w.write.ensures c.if-after-eq1.false
+last : (c : tie.After-write) → finished-after c ≡ 1 → advanced_by c.args.run.now c.args.held.now c.args.file.now ≡ record { answer = Advanced.Finished; numbers = c.write.new.run }
+last c = advance-last _ _ _ (started (d (t c))) (alike (d (t c))) (first (t c)).accepted (unfinished c) (next c) c.write.ensures
+
+more : (c : tie.After-write) → (finished-after c ≡ 1 → ⊥) → advanced_by c.args.run.now c.args.held.now c.args.file.now ≡ record { answer = Advanced.Unfinished; numbers = c.write.new.run }
+more c = advance-more _ _ _ (started (d (t c))) (alike (d (t c))) (first (t c)).accepted (unfinished c) (next c) c.write.ensures
 
 pub advance_spec : {M : Type 1} → statement M
 advance_spec =
@@ -155,5 +155,5 @@ advance_spec =
     evaluate-next-requires
     write-requires
     returns-4
-    returns-5
-    returns-6)
+    (λ c. last c.before.before (omega arith))
+    (λ c. more c.before.before (λ z. omega arith)))
