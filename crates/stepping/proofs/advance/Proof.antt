@@ -5,11 +5,13 @@ use mathlib.Core.Path.{◌≡◌, sym, ap, ◌∙◌, subst⁻¹}
 use mathlib.Core.Bool.{true}
 use lib.ListN.{length, take}
 use borrow.Author.Rules.{rules}
+use borrow.Author.Tests.{not-true, not-false}
 use Rattle.rules.specs.Problem.{problem_in}
 use Rattle.evaluation.specs.Clauses.{First}
 use Rattle.evaluation.proofs.Covering.{first_found, first-refused}
 use Rattle.bisection.proofs.Starting.{holding}
-use Rattle.stepping.specs.Runs.{Run, run_in, begun, held, same, evaluated}
+use Rattle.stepping.specs.declared.Advanced.{Advanced}
+use Rattle.stepping.specs.Runs.{Run, run_in, begun, held, same, evaluated, advanced_by}
 use Rattle.stepping.specs.Clauses.{run_of}
 use Rattle.stepping.proofs.Fitting.{fitting}
 use Rattle.stepping.proofs.Endings.{advance-unstarted, advance-changed, advance-refused, advance-finished, advance-last, advance-more}
@@ -128,6 +130,15 @@ module _ (c : tie.After-write) where
   next : run_of e.evaluate_next-after.result ≡ evaluated (problem_in (entry (d t)).args.file.now) run
   next = e.evaluate_next-after.ensures.held (problem_in (entry (d t)).args.file.now) (holding (first t)) ∙ ap (evaluated (problem_in (entry (d t)).args.file.now)) (read_is (d t))
 
+abbrev finished-after : tie.After-write → ℕ
+finished-after c = c.evaluate_next-after.result.finished
+
+last : (c : tie.After-write) → finished-after c ≡ 1 → advanced_by c.args.run.now c.args.held.now c.args.file.now ≡ record { answer = Advanced.Finished; numbers = c.write.new.run }
+last c = advance-last _ _ _ (started (d (t c))) (alike (d (t c))) (first (t c)).accepted (unfinished c) (next c) c.write.ensures
+
+more : (c : tie.After-write) → (finished-after c ≡ 1 → ⊥) → advanced_by c.args.run.now c.args.held.now c.args.file.now ≡ record { answer = Advanced.Unfinished; numbers = c.write.new.run }
+more c = advance-more _ _ _ (started (d (t c))) (alike (d (t c))) (first (t c)).accepted (unfinished c) (next c) c.write.ensures
+
 pub advance_spec : {M : Type 1} → statement M
 advance_spec =
     tie.close
@@ -144,5 +155,5 @@ advance_spec =
     evaluate-next-requires
     write-requires
     returns-4
-    (λ c. let w = c.before.before in advance-last _ _ _ (started (d (t w))) (alike (d (t w))) (first (t w)).accepted (unfinished w) (next w) c.write.ensures (omega arith))
-    (λ c. let w = c.before.before in advance-more _ _ _ (started (d (t w))) (alike (d (t w))) (first (t w)).accepted (unfinished w) (next w) c.write.ensures (omega arith)))
+    (λ c. last c.before.before (omega arith))
+    (λ c. more c.before.before (λ z. omega arith)))
