@@ -22,10 +22,13 @@ TYPE = re.compile(r"\b(?:struct|enum)\s+(\w+)")
 
 
 def antt_files():
-    """Every file of specifications and proofs, by its name: (crate, part, names that it declares)."""
+    """Every file of specifications and of lemmas, by its name: (crate, part, names that it declares). What stands in a folder that is
+    named for a function (Answers, Invariants, Proof) proves that function alone."""
     files = {}
     for path in sorted(CRATES.glob("*/specs/**/*.antt")) + sorted(CRATES.glob("*/proofs/**/*.antt")):
-        crate, part = path.relative_to(CRATES).parts[:2]
+        crate, part, *folders, _ = path.relative_to(CRATES).parts
+        if not all(folder[0].isupper() for folder in folders):
+            continue
         names = {match.group(1) for line in path.read_text(encoding="utf-8").splitlines() if (match := DECLARED.match(line))}
         files.setdefault(path.stem, []).append((crate, part, names))
     return files
