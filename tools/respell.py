@@ -41,11 +41,11 @@ def read(path):
 
 
 def snake(word):
-    """`numberAfter` as number_after, `atMost18` as at_most_18, `packInto2` as pack_into_2."""
+    """`numberAfter` as number_after, `atMost18` as at_most_18, `pack2Into` as pack_2_into, `c0At` as c0_at."""
     if word == "getD":  # of the library, get_or today
         return "get_or"
     word = re.sub(r"(?<=[a-z0-9])(?=[A-Z])", "_", word)
-    word = re.sub(r"(?<=[a-z])(?=[0-9])", "_", word) if re.search(r"[A-Z]", word) else word
+    word = re.sub(r"(?<=[a-z][a-z])(?=[0-9])", "_", word) if re.search(r"[A-Z]", word) else word
     return word.lower()
 
 
@@ -73,7 +73,7 @@ def spelling(own, taken):
     new = {}
     plain = {n for n in own | taken if "-" not in n}
     for name in sorted(own - taken):
-        if name[0].isupper() and "-" not in name or not re.search(r"[a-z][A-Z]|-", name):
+        if name[0].isupper() and "-" not in name or not re.search(r"[a-z0-9][A-Z]|-", name):
             continue
         parts = name.split("-")
         if "" in parts:

@@ -16,7 +16,7 @@ use Rattle.fields.specs.Integers.{Is, positive_part, negative_part}
 use Rattle.fields.proofs.Integers.{is_pos, is-sub, is_minus, cast, fits, kept, same, under, up_is, dn_is}
 use Rattle.rules.specs.Sound.{Sound}
 use Rattle.rules.proofs.Economics.Quantities.{factor, cost-running, cost-standing, net-whole, priced-is}
-use Rattle.site.specs.Site.{factor_at, c0At, c1At, c2At, b_at, Coefficients}
+use Rattle.site.specs.Site.{factor_at, c0_at, c1_at, c2_at, b_at, Coefficients}
 use Rattle.curve.specs.declared.Curve as code
 use Rattle.curve.specs.Curve.{height, priced_at, IsCurve, InRange, Valley}
 use Rattle.curve.specs.Clauses.{AtOutput, AtMultiplier}
@@ -25,9 +25,9 @@ use Rattle.curve.specs.Clauses.{AtOutput, AtMultiplier}
 
 -- the coefficients of unit i
 pub record Limits (coefficients : List ℕ) (i : ℕ) : Type 0 where
-  pub c0 : c0At coefficients i ≤ 1000000000
-  pub c1 : c1At coefficients i ≤ 10000000
-  pub c2 : c2At coefficients i ≤ 1000
+  pub c0 : c0_at coefficients i ≤ 1000000000
+  pub c1 : c1_at coefficients i ≤ 10000000
+  pub c2 : c2_at coefficients i ≤ 1000
   pub b : b_at coefficients i ≤ 5000
   pub factor : factor_at coefficients i ≤ 110000000
   pub above : 19999 * b_at coefficients i < factor_at coefficients i
@@ -41,8 +41,8 @@ limits h =
 pub record AtOutputRange (coefficients : List ℕ) (i p : ℕ) : Type 0 where
   pub limits : Limits coefficients i
   pub few : i < 32
-  pub square : c2At coefficients i * p ≤ 10000000
-  pub slope : (c1At coefficients i + c2At coefficients i * p) * p ≤ 200000000000
+  pub square : c2_at coefficients i * p ≤ 10000000
+  pub slope : (c1_at coefficients i + c2_at coefficients i * p) * p ≤ 200000000000
   pub small : b_at coefficients i * p ≤ 50000000
   pub loss : b_at coefficients i * p ≤ factor_at coefficients i
   pub net : (factor_at coefficients i - b_at coefficients i * p) * p ≤ 1100000000000
@@ -50,7 +50,7 @@ pub record AtOutputRange (coefficients : List ℕ) (i p : ℕ) : Type 0 where
 pub at-output : {coefficients : List ℕ} {i p : ℕ} → AtOutput coefficients i p → AtOutputRange coefficients i p
 at-output {coefficients} {i} {p} h =
     let l = limits h.holds in
-    let square : c2At coefficients i * p ≤ 1000 * 10000 = mul-le-mul l.c2 h.output in
+    let square : c2_at coefficients i * p ≤ 1000 * 10000 = mul-le-mul l.c2 h.output in
     record {
       limits = l;
       few = h.few;
@@ -75,7 +75,7 @@ at-multiplier h = let l = limits h.holds in record { limits = l; few = h.few; mu
 -- ---- cost and net, as they are computed
 
 module _ {coefficients : List ℕ} {i : ℕ} {u : Unit} (h : Coefficients coefficients i u) (p : ℕ) where
-  pub cost-computed : 1 ≤ p → c0At coefficients i + (c1At coefficients i + c2At coefficients i * p) * p ≡ cost u p
+  pub cost-computed : 1 ≤ p → c0_at coefficients i + (c1_at coefficients i + c2_at coefficients i * p) * p ≡ cost u p
   cost-computed k = rw (h.c0, h.c1, h.c2) (omega (arith, cost-running u p k))
 
   pub net-computed : p ≤ 10000 → (factor_at coefficients i - b_at coefficients i * p) * p ≡ net u p
@@ -91,23 +91,23 @@ module _ {coefficients : List ℕ} {i m : ℕ} (h : AtMultiplier coefficients i 
   r = at-multiplier h
 
   abbrev line : ℤ
-  line = to_z w64 (100000 * c1At coefficients i) -ℤ to_z w64 (factor_at coefficients i * m)
+  line = to_z w64 (100000 * c1_at coefficients i) -ℤ to_z w64 (factor_at coefficients i * m)
 
-  line-is : Is line (100000 * c1At coefficients i + 0) (0 + factor_at coefficients i * m)
+  line-is : Is line (100000 * c1_at coefficients i + 0) (0 + factor_at coefficients i * m)
   line-is = is_minus (cast _ (omega (arith, r.limits.c1))) (cast _ (omega (arith, r.price)))
 
   pub line-fits : SFits w64 line
   line-fits = fits line-is (omega (arith, r.limits.c1)) (omega (arith, r.price))
 
-  line_read : Is (to_z w64 (of_z w64 line)) (100000 * c1At coefficients i) (factor_at coefficients i * m)
+  line_read : Is (to_z w64 (of_z w64 line)) (100000 * c1_at coefficients i) (factor_at coefficients i * m)
   line_read = record { is = omega (arith, kept line-is (omega (arith, r.limits.c1)) (omega (arith, r.price))) }
 
   abbrev computed : code.Curve
   computed =
       record {
-        square = 100000 * c2At coefficients i + m * b_at coefficients i;
+        square = 100000 * c2_at coefficients i + m * b_at coefficients i;
         linear = to_z w64 (of_z w64 line);
-        constant = 100000 * c0At coefficients i;
+        constant = 100000 * c0_at coefficients i;
       }
 
   pub curve-computed : InRange computed × ((u : Unit) → Coefficients coefficients i u → IsCurve m u computed)

@@ -26,7 +26,7 @@ pub data Call : Type 0 where
   -- the lent buffer comes last
   dispatch_into : List ℕ → List ℕ → Call
   pack_into : ℕ → List ℕ → List ℕ → Call
-  pack2Into : ℕ → List ℕ → List ℤ → List ℕ → Call
+  pack_2_into : ℕ → List ℕ → List ℤ → List ℕ → Call
   unpack_into : List ℕ → List ℕ → Call
   -- the calls as C sees them
   panel_dispatch : List ℕ → List ℕ → Call
@@ -98,7 +98,7 @@ answer (pack d rows) = let r = packed d rows buffer in of_packing r.answer r.fil
 answer (check file) = checks (number_of_verdict (file_verdict file))
 answer (dispatch_into file reply) = let r = dispatched file reply in of_dispatch r.answer r.reply
 answer (pack_into d rows file) = let r = packed d rows file in of_packing r.answer r.file
-answer (pack2Into d rows b1 file) = let r = packed2 d rows b1 file in of_packing r.answer r.file
+answer (pack_2_into d rows b1 file) = let r = packed2 d rows b1 file in of_packing r.answer r.file
 answer (unpack_into file rows) = let r = unpacked file rows in of_unpacking r.answer r.rows
 answer (panel_dispatch file reply) = let r = panel_dispatched file reply in returns r.number r.reply []
 answer (panel_price file m answers) = let r = panel_priced file m answers in returns r.number [] r.answers

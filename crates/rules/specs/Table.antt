@@ -5,11 +5,11 @@ use Rattle.rules.specs.Lists.{each, over}
 use Rattle.rules.specs.Layout.{file_of, unit_of_row}
 use Rattle.rules.specs.TableRows.{Row, Holds}
 use Rattle.rules.specs.Cases.{Call, Answer, answer, buffer, reply, dispatch, price, pack, check, dispatch_into, pack_into, unpack_into, panel_dispatch, panel_price, panel_pack, panel_unpack, allocate, search_for, solve_offers, divide, writes, refuses, values, checks, reads, returns, allocates, finds, solves, divides}
-use Rattle.rules.specs.CaseFiles.{u5, u5Reply, site, site_reply, u10Reply, row_of_u, rows_of_site, put, short_head, other_mark, largest_losses, rows_buffer, answers, unit, U, lossy, priced-at, marked, zoned, costing}
+use Rattle.rules.specs.CaseFiles.{u5, u5_reply, site, site_reply, u10_reply, row_of_u, rows_of_site, put, short_head, other_mark, largest_losses, rows_buffer, answers, unit, U, lossy, priced-at, marked, zoned, costing}
 
 unfoldable pub table : List (Row Call Answer)
 table =
-    record { call = dispatch u5; result = writes 30 (over u5Reply buffer) }
+    record { call = dispatch u5; result = writes 30 (over u5_reply buffer) }
     ∷ record { call = dispatch (file_of 0 (U ∷ [])); result = reply (0 ∷ []) 0 0 1 0 }
     ∷ record { call = dispatch (file_of 0 (marked 1 0 0 0 ∷ [])); result = reply (2 ∷ []) 24000 0 1 200000000 }
     ∷ record { call = dispatch (file_of 10 (U ∷ [])); result = reply (10 ∷ []) 200000 0 2 0 }
@@ -53,11 +53,11 @@ further =
     -- the second zone left out, or one kind of unit
     ∷ record { call = dispatch (site 23); result = reply (13 ∷ 12 ∷ []) 626747 67999 18 199999349 }
     -- the evaluations 18 in the bytes of each reply
-    ∷ record { call = dispatch (file_of 10 (U ∷ [])); result = writes 30 (u10Reply ++ replicate 62 255) }
+    ∷ record { call = dispatch (file_of 10 (U ∷ [])); result = writes 30 (u10_reply ++ replicate 62 255) }
     -- a window that ends below previous + up; one unit, or its outputs from the last, in the bytes of each reply
     ∷ record { call = dispatch (site 26); result = writes 32 (site_reply ++ replicate 60 255) }
     -- bytes past the reply moved or changed
-    ∷ record { call = dispatch_into u5 (each 95 (λ k. k)); result = writes 30 (u5Reply ++ each 65 (λ k. 30 + k)) }
+    ∷ record { call = dispatch_into u5 (each 95 (λ k. k)); result = writes 30 (u5_reply ++ each 65 (λ k. 30 + k)) }
     -- the upper edge taken wherever the vertex lies in a zone
     ∷ record { call = price u5 20; result = values (pos 7600000000) false }
     -- pricing asks cover of d + 1, or a net above the demand
@@ -114,7 +114,7 @@ standing =
 unfoldable pub panel_forms : List (Row Call Answer)
 panel_forms =
     -- dispatch does not return the length
-    record { call = panel_dispatch u5 buffer; result = returns 30 (u5Reply ++ replicate 62 255) [] }
+    record { call = panel_dispatch u5 buffer; result = returns 30 (u5_reply ++ replicate 62 255) [] }
     -- dispatch does not return the refusal number, or writes before it refuses
     ∷ record { call = panel_dispatch other_mark buffer; result = returns 10 buffer [] }
     -- packing does not return the length

@@ -4,14 +4,14 @@ use Rattle.fields.specs.Field.{bytes_of_each}
 use Rattle.rules.specs.Lists.{over, each}
 use Rattle.rules.specs.TableRows.{Row, Holds}
 use Rattle.rules.specs.Cases.{Call, Answer, answer, buffer, reply, dispatch, price, pack, check, unpack_into, panel_dispatch, panel_price, panel_unpack, writes, refuses, values, checks, returns}
-use Rattle.rules.specs.CaseFiles.{u5, u5Reply, row_of_u, at_limits, put, copies, with_linear_loss, site2, site2Reply, in_edition_2, rows_buffer, answers}
+use Rattle.rules.specs.CaseFiles.{u5, u5_reply, row_of_u, at_limits, put, copies, with_linear_loss, site2, site_2_reply, in_edition_2, rows_buffer, answers}
 
 unfoldable pub linear_losses : List (Row Call Answer)
 linear_losses =
     -- edition 2 not accepted, or read otherwise than edition 1 where b1 is 0
-    record { call = dispatch (with_linear_loss 0x00 0x00 0x00 0x00); result = writes 30 (over u5Reply buffer) }
+    record { call = dispatch (with_linear_loss 0x00 0x00 0x00 0x00); result = writes 30 (over u5_reply buffer) }
     -- b1 of one unit or of one sign left out; the edges read at 26; the second body read as if it had a zone
-    ∷ record { call = dispatch (site2 26); result = writes 32 (site2Reply ++ replicate 60 255) }
+    ∷ record { call = dispatch (site2 26); result = writes 32 (site_2_reply ++ replicate 60 255) }
     -- b1 added to net, or charged to a unit that stands
     ∷ record { call = dispatch (site2 0); result = reply (7 ∷ 0 ∷ []) 169000 0 1 664999853 }
     -- b1 left out of the floors

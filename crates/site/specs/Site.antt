@@ -17,14 +17,14 @@ abbrev pub last : List ℕ → ℕ → ℕ
 last ranges i = get_or ranges (2 * i + 1) 0
 
 -- the coefficients of unit i: constant, linear and quadratic cost, quadratic loss, and the linear factor of net
-abbrev pub c0At : List ℕ → ℕ → ℕ
-c0At coefficients i = get_or coefficients (5 * i) 0
+abbrev pub c0_at : List ℕ → ℕ → ℕ
+c0_at coefficients i = get_or coefficients (5 * i) 0
 
-abbrev pub c1At : List ℕ → ℕ → ℕ
-c1At coefficients i = get_or coefficients (5 * i + 1) 0
+abbrev pub c1_at : List ℕ → ℕ → ℕ
+c1_at coefficients i = get_or coefficients (5 * i + 1) 0
 
-abbrev pub c2At : List ℕ → ℕ → ℕ
-c2At coefficients i = get_or coefficients (5 * i + 2) 0
+abbrev pub c2_at : List ℕ → ℕ → ℕ
+c2_at coefficients i = get_or coefficients (5 * i + 2) 0
 
 abbrev pub b_at : List ℕ → ℕ → ℕ
 b_at coefficients i = get_or coefficients (5 * i + 3) 0
@@ -35,9 +35,9 @@ factor_at coefficients i = get_or coefficients (5 * i + 4) 0
 -- they are those of u, which is sound
 pub record Coefficients (coefficients : List ℕ) (i : ℕ) (u : Unit) : Type 0 where
   pub sound : Sound u
-  pub c0 : c0At coefficients i ≡ u.c0
-  pub c1 : c1At coefficients i ≡ u.c1
-  pub c2 : c2At coefficients i ≡ u.c2
+  pub c0 : c0_at coefficients i ≡ u.c0
+  pub c1 : c1_at coefficients i ≡ u.c1
+  pub c2 : c2_at coefficients i ≡ u.c2
   pub b : b_at coefficients i ≡ u.b
   pub factor : factor_at coefficients i ≡ linear_factor u
 

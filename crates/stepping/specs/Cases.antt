@@ -119,7 +119,7 @@ ended_shown = finished_at 1 18 119000 42000 200000000 (7 ∷ [])
 
 -- numbers and bytes before, and after
 abbrev pub on : List ℕ → List ℕ → List Operation → List Told → List ℕ → List ℕ → Row Call Result
-on numbers held operations answers numbersAfter heldAfter = record { call = from numbers held operations; result = leaves answers numbersAfter heldAfter }
+on numbers held operations answers numbers_after held_after = record { call = from numbers held operations; result = leaves answers numbers_after held_after }
 
 -- with every byte as it was
 abbrev pub holds : List ℕ → List ℕ → List Operation → List Told → List ℕ → Row Call Result

@@ -14,11 +14,11 @@ use Rattle.day.proofs.Records.{after-other}
 use Rattle.day.proofs.columns_after.Statement.{statement}
 use Rattle.day.proofs.columns_after.Tie as tie
 
-abbrev columnsOf : List ℕ → List ℕ → Columns
-columnsOf previous starts = record { previous = previous; starts = starts }
+abbrev columns_of : List ℕ → List ℕ → Columns
+columns_of previous starts = record { previous = previous; starts = starts }
 
 abbrev invariant-loop : tie.invariant-loop-i
-invariant-loop n outputs previous₀ starts₀ i₀ previous starts i = (i ≤ n) × (columnsOf previous starts ≡ columns_after (columnsOf previous₀ starts₀) outputs i)
+invariant-loop n outputs previous₀ starts₀ i₀ previous starts i = (i ≤ n) × (columns_of previous starts ≡ columns_after (columns_of previous₀ starts₀) outputs i)
 
 abbrev decreases-loop : tie.decreases-loop-i
 decreases-loop n outputs previous₀ starts₀ i₀ previous starts i = n - i
