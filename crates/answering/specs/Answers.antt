@@ -1,5 +1,5 @@
 -- Rule 23.4 of docs/SPECIFICATION.md: start, advance and ask of a run in C. The number that each returns, and what it puts into a lent list of signed numbers.
-use Rattle.std.specs.Prelude.{ℕ, cond, List, [], ◌∷◌, ◌++◌, map, ltb, ℤ, pos, length}
+use Rattle.std.specs.Prelude.{ℕ, cond, List, [], ◌∷◌, map, ltb, ℤ, pos, length}
 use Rattle.rules.specs.Lists.{over}
 use Rattle.rules.specs.Refusal.{number_of}
 use Rattle.rules.specs.declared.Refusal.TheVariants.{BufferTooShort}

@@ -1,8 +1,8 @@
 -- What holds of every day: laws of the slots one by one, by induction over the demands.
-use mathlib.Core.Path.{◌≡◌, refl, sym, ap, ap₂, subst, ◌∙◌}
-use Prim.Native.Nat.{ℕ, zero, suc, ◌+◌, ◌*◌, ◌<◌, ◌≤◌}
+use mathlib.Core.Path.{◌≡◌, refl, sym, ap, ◌∙◌}
+use Prim.Native.Nat.{ℕ, suc, ◌+◌, ◌*◌, ◌≤◌}
 use native.Mathlib.Omega.{arith}
-use mathlib.Core.Bool.{Bool, true, false, true≢false, cond, ◌&&◌}
+use mathlib.Core.Bool.{Bool, true, false, cond, ◌&&◌}
 use mathlib.Core.List.{List, [], ◌∷◌, ◌++◌, map, append_assoc, append-nil}
 use mathlib.Core.Logic.{◌↔◌}
 use lib.Dec.{ltb, eqb}
@@ -13,10 +13,9 @@ use Rattle.rules.specs.Lists.{sum, Every, over}
 use Rattle.rules.specs.Unit.{Unit}
 use Rattle.rules.specs.Layout.{Case, count, case_of}
 use Rattle.rules.specs.Refusal.{file_verdict}
-use Rattle.rules.specs.Problem.{Problem, problem_of, target, total_net, units_of}
-use Rattle.rules.specs.Bisection.{Reply, solvable, solve}
-use Rattle.rules.specs.Demands.{demands_invalid}
-use Rattle.rules.specs.Promise.{Permitted, Covering, ReplyPromise}
+use Rattle.rules.specs.Problem.{Problem, problem_of}
+use Rattle.rules.specs.Bisection.{solvable, solve}
+use Rattle.rules.specs.Promise.{Permitted, Covering}
 use Rattle.rules.specs.Sound.{Sound}
 use Rattle.rules.specs.declared.Refusal.{Refusal}
 use Rattle.rules.specs.declared.Verdict.{Verdict}
@@ -27,8 +26,8 @@ use Rattle.rules.proofs.Economics.Solution.{reply-promise, covering-net, permitt
 use Rattle.rules.proofs.Economics.Solvable.{unsolvable, case-proper}
 use Rattle.day.specs.declared.History.{History}
 use Rattle.day.specs.declared.Scheduled.{Scheduled}
-use Rattle.day.specs.Day.{slot_case, history_after, histories_after, histories_of, Slots, slot_bytes, solved_slot, refused_slot, one_slot, slots_more, slots_from, no_slot, day_of, day_verdict, day_ends, scheduled}
-use Rattle.day.specs.Claims.{cases_from, slot_cases, cost_of, bytes_of, joined, SumOfSlots, SlotPromise, EachSlot, last_outputs, previous_outputs, PreviousOfLastSolved, OneMore, solved_of, Bounded, DayBounded, RefusesAsFile, Untouched}
+use Rattle.day.specs.Day.{slot_case, histories_after, histories_of, Slots, slot_bytes, solved_slot, refused_slot, one_slot, slots_more, slots_from, no_slot, day_of, day_verdict, day_ends, scheduled}
+use Rattle.day.specs.Claims.{cases_from, slot_cases, cost_of, bytes_of, joined, SumOfSlots, SlotPromise, EachSlot, last_outputs, previous_outputs, PreviousOfLastSolved, OneMore, solved_of, DayBounded, RefusesAsFile, Untouched}
 use Rattle.day.proofs.OneSlot.{slot_long, slot_sound, outputs-long, outputs-small, slot_histories, slot_cost}
 use Rattle.day.proofs.Folding.{units-counted, from_more}
 use Rattle.day.proofs.Opens.{accepts-day}

@@ -1,5 +1,5 @@
 -- All slots on the lent buffers are the day's by the rules: after k slots trace and histories have at their start what the rules give for the first k demands, and the rest as it was.
-use mathlib.Core.Path.{◌≡◌, refl, sym, ap, ap₂, subst, ◌∙◌}
+use mathlib.Core.Path.{◌≡◌, refl, sym, ap, ap₂, ◌∙◌}
 use Prim.Native.Nat.{ℕ, zero, suc, ◌+◌, ◌*◌, ◌<◌, ◌≤◌}
 use native.Mathlib.Omega.{arith}
 use mathlib.Core.Bool.{true}
@@ -8,8 +8,6 @@ use lib.ListN.{length, get_or, take, drop, take-append-drop}
 use lib.Seq.{length-take-le, take_at, drop_at, take-suc, get_or-take}
 use Rattle.rules.specs.Lists.{each, over, Every}
 use Rattle.rules.specs.Layout.{Case, count, unit_at, case_of}
-use Rattle.rules.specs.Refusal.{file_verdict}
-use Rattle.rules.specs.Problem.{problem_of}
 use Rattle.rules.specs.Bisection.{solvable, solve}
 use Rattle.rules.specs.Sound.{Sound}
 use Rattle.rules.proofs.Lists.{length-each, every-each, every-from, every-at, every_more}
@@ -17,9 +15,9 @@ use Rattle.rules.proofs.Encoding.Front.{Front, front-none, front-part, front_len
 use Rattle.rules.proofs.Encoding.SoundFile.{sound-file, units-sound}
 use Rattle.day.specs.declared.History.{History}
 use Rattle.day.specs.declared.Columns.{Columns}
-use Rattle.day.specs.Day.{slot_case, Slots, one_slot, slots_more, slots_from, no_slot}
-use Rattle.day.specs.Clauses.{record_at, none, copied_out, copied_back, blank, slot_problem, slot_of, slot_trace, Turn, turned, slots_after, HistoryInRange, HistoriesInRange, Units, SlotAsks, TurnAsks, Ready}
-use Rattle.day.proofs.Records.{Full, out-full, out_at, out-each, back-over}
+use Rattle.day.specs.Day.{Slots, one_slot, slots_more, slots_from, no_slot}
+use Rattle.day.specs.Clauses.{record_at, none, copied_out, blank, slot_problem, slot_of, Turn, turned, slots_after, HistoryInRange, HistoriesInRange, Units, SlotAsks, TurnAsks, Ready}
+use Rattle.day.proofs.Records.{out-full, out_at, out-each, back-over}
 use Rattle.day.proofs.OneSlot.{slot_long, outputs-long, slot_histories, slot_in_range, slot_cost, slot_columns, slot_total, slot_trace_lem}
 
 pub front-taken : {A : Type 0} {s₀ p s : List A} {k : ℕ} → Front s₀ p s k → take k s ≡ p

@@ -3,20 +3,17 @@ use mathlib.Core.Path.{◌≡◌, refl, sym, ap, ap₂, ◌∙◌}
 use Prim.Native.Nat.{ℕ, ◌+◌, ◌-◌, ◌*◌, ◌<◌, ◌≤◌}
 use native.Mathlib.Omega.{arith}
 use mathlib.Core.Bool.{true, false}
-use mathlib.Core.List.{List, [], ◌∷◌, ◌++◌, append-nil}
+use mathlib.Core.List.{List, [], ◌++◌, append-nil}
 use lib.ListN.{length, get_or, take, drop, length-drop, drop_of_length-le}
 use lib.Seq.{take_all, get_or-take}
-use Rattle.rules.specs.Lists.{each, over}
-use Rattle.rules.specs.Layout.{case_of}
+use Rattle.rules.specs.Lists.{over}
 use Rattle.rules.specs.Problem.{Problem}
 use Rattle.rules.specs.Bisection.{solvable, solve}
 use Rattle.rules.proofs.Encoding.Front.{lent, given_back}
-use Rattle.site.specs.Clauses.{PreviousGiven}
 use Rattle.day.specs.declared.Columns.{Columns}
 use Rattle.day.specs.declared.Solution.{Solution}
-use Rattle.day.specs.declared.SlotEnd.{SlotEnd}
-use Rattle.day.specs.Day.{slot_bytes, solved_slot, refused_slot, one_slot}
-use Rattle.day.specs.Clauses.{record_at, columns_after, slot_problem, problem_with, SolutionAsks, Solves, slot_of, slot_trace, SlotAsks}
+use Rattle.day.specs.Day.{slot_bytes, one_slot}
+use Rattle.day.specs.Clauses.{columns_after, slot_problem, problem_with, SolutionAsks, Solves, slot_of, slot_trace, SlotAsks}
 use Rattle.day.proofs.Records.{after_same}
 use Rattle.day.proofs.Solving.{slot_problem_lem}
 

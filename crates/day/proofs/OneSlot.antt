@@ -1,19 +1,18 @@
 -- One slot. Its case is sound where the previous outputs are in range, so that what holds of a dispatch holds of it: as many outputs as sets, none above 10,000, and a cost in range. And a slot on the columns is a slot of the rules.
-use mathlib.Core.Path.{◌≡◌, refl, sym, ap, subst, ◌∙◌}
-use Prim.Native.Nat.{ℕ, zero, suc, ◌+◌, ◌*◌, ◌<◌, ◌≤◌}
+use mathlib.Core.Path.{◌≡◌, refl, sym, ap, ◌∙◌}
+use Prim.Native.Nat.{ℕ, suc, ◌+◌, ◌*◌, ◌≤◌}
 use native.Mathlib.Omega.{arith}
 use mathlib.Core.Bool.{Bool, true, false, true≢false, cond, ◌&&◌}
 use mathlib.Core.List.{List, [], ◌∷◌, ◌++◌}
 use lib.Dec.{ltb, eqb}
 use lib.ListN.{length, get_or, take, drop, length-append}
 use lib.Seq.{drop-drop}
-use Rattle.fields.specs.Field.{bytes}
 use Rattle.fields.proofs.Width.{length-bytes}
-use Rattle.rules.specs.Lists.{each, over, Every}
+use Rattle.rules.specs.Lists.{each, Every}
 use Rattle.rules.specs.Unit.{Unit, permitted}
 use Rattle.rules.specs.Layout.{Case, case_of}
 use Rattle.rules.specs.Problem.{Problem, problem_of, allocation}
-use Rattle.rules.specs.Bisection.{Reply, solvable, solve}
+use Rattle.rules.specs.Bisection.{solvable, solve}
 use Rattle.rules.specs.Promise.{ReplyPromise}
 use Rattle.rules.specs.Sound.{Sound}
 use Rattle.rules.proofs.Lists.{every_more}
@@ -25,7 +24,7 @@ use Rattle.rules.proofs.Economics.Totals.{total_cost_range}
 use Rattle.day.specs.declared.History.{History}
 use Rattle.day.specs.declared.Columns.{Columns}
 use Rattle.day.specs.declared.SlotEnd.{SlotEnd}
-use Rattle.day.specs.Day.{each_with_previous, slot_case, history_after, histories_after, Slots, slot_bytes, solved_slot, refused_slot, one_slot}
+use Rattle.day.specs.Day.{each_with_previous, slot_case, histories_after, slot_bytes, solved_slot, refused_slot, one_slot}
 use Rattle.day.specs.Clauses.{record_at, columns_after, slot_problem, slot_of, slot_trace, HistoryInRange}
 use Rattle.day.proofs.Records.{Full, after-each}
 

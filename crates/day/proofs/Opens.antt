@@ -1,19 +1,19 @@
 -- What a call opens with: what the slots ask holds of it, and what is made of it is the call by its definition.
 use mathlib.Core.Path.{◌≡◌, refl, sym, ap, subst, ◌∙◌}
-use Prim.Native.Nat.{ℕ, zero, suc, ◌+◌, ◌*◌, ◌<◌, ◌≤◌}
+use Prim.Native.Nat.{ℕ, zero, suc, ◌*◌, ◌<◌, ◌≤◌}
 use native.Mathlib.Omega.{arith}
 use mathlib.Core.Bool.{false}
-use mathlib.Core.List.{List, [], ◌∷◌, ◌++◌, map}
+use mathlib.Core.List.{List, ◌∷◌, ◌++◌, map}
 use lib.Dec.{ltb}
 use lib.ListN.{length, get_or, take, drop}
 use lib.Seq.{take_all, drop_at, get_or-take}
-use Rattle.rules.specs.Lists.{each, over, Every}
+use Rattle.rules.specs.Lists.{each}
 use Rattle.rules.specs.Unit.{Unit}
-use Rattle.rules.specs.Layout.{Case, count, unit_at, case_of}
+use Rattle.rules.specs.Layout.{count, unit_at, case_of}
 use Rattle.rules.specs.Refusal.{file_verdict}
-use Rattle.rules.specs.Demands.{demands_invalid, ValidDemands}
+use Rattle.rules.specs.Demands.{demands_invalid}
 use Rattle.rules.specs.declared.Verdict.{Verdict}
-use Rattle.rules.proofs.Lists.{every-at, length-each, get_or_each}
+use Rattle.rules.proofs.Lists.{every-at, get_or_each}
 use Rattle.rules.proofs.Verdicts.{refuses-accepted, then_accepted, or_false, ltb_is_false}
 use Rattle.rules.proofs.Demands.{valid-demands}
 use Rattle.rules.proofs.Encoding.Front.{Front, front-over, front_length}
@@ -21,10 +21,10 @@ use Rattle.rules.proofs.Encoding.SoundFile.{sound-file, unit_at_sound}
 use Rattle.day.specs.declared.History.{History}
 use Rattle.day.specs.declared.Opening.{Opening}
 use Rattle.day.specs.declared.Scheduled.{Scheduled}
-use Rattle.day.specs.Day.{Slots, histories_of, no_slot, slots_from, day_of, day_verdict, DayResult, day_ends, scheduled}
-use Rattle.day.specs.Clauses.{record_at, none, copied_back, blank, first_columns, Turn, slots_after, HistoryInRange, HistoriesInRange, Units, Ready, opened, opening_of, ended_of, total_of}
+use Rattle.day.specs.Day.{histories_of, no_slot, slots_from, day_of, day_verdict, DayResult, day_ends, scheduled}
+use Rattle.day.specs.Clauses.{record_at, none, copied_back, first_columns, Turn, slots_after, HistoriesInRange, Units, Ready, opened, opening_of, ended_of, total_of}
 use Rattle.day.proofs.Records.{back-front, first-each}
-use Rattle.day.proofs.Folding.{front-taken, Folded, folded}
+use Rattle.day.proofs.Folding.{front-taken, folded}
 
 -- ---- an accepted call
 

@@ -17,7 +17,6 @@ use Rattle.solving.specs.ReplyHeld.{reply_held}
 use Rattle.solving.specs.Clauses.{HoldsSolution}
 use Rattle.day.specs.declared.History.{History}
 use Rattle.day.specs.declared.Columns.{Columns}
-use Rattle.day.specs.declared.Solution.{Solution}
 use Rattle.day.specs.Day.{each_with_previous, slot_case}
 use Rattle.day.specs.Clauses.{record_at, slot_problem, problem_with, SolutionAsks, Solves}
 

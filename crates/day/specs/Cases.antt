@@ -5,7 +5,7 @@ use Rattle.rules.specs.Layout.{file_of}
 use Rattle.rules.specs.Refusal.{number_of, number_of_verdict}
 use Rattle.rules.specs.TableRows.{Row, Holds}
 use Rattle.rules.specs.Cases as cases
-use Rattle.rules.specs.CaseFiles.{u5, short_head, other_edition, no_unit, demand_above, byte_too_many, no_zone, linear_cost_above, edge_at_least, other_mark, put, with_linear_loss, unit, U, lossy, marked}
+use Rattle.rules.specs.CaseFiles.{u5, short_head, other_edition, no_unit, demand_above, byte_too_many, no_zone, linear_cost_above, edge_at_least, other_mark, put, with_linear_loss, U, lossy, marked}
 use Rattle.rules.specs.Unit as units
 use Rattle.day.specs.declared.History.{History}
 use Rattle.day.specs.declared.Scheduled.{Scheduled}

@@ -1,5 +1,5 @@
 -- Rules 21.6 to 21.8 of docs/SPECIFICATION.md: what holds of every day, as statements. (They are proved in proofs/Claims and proofs/Starts.)
-use Rattle.std.specs.Prelude.{ℕ, zero, suc, ◌+◌, ◌*◌, ◌≤◌, ◌<◌, true, false, cond, ◌&&◌, List, [], ◌∷◌, ◌++◌, map, ◌↔◌, ◌≡◌, ltb, eqb, length, get_or, take, drop}
+use Rattle.std.specs.Prelude.{ℕ, suc, ◌+◌, ◌*◌, ◌≤◌, true, false, cond, ◌&&◌, List, [], ◌∷◌, ◌++◌, map, ◌↔◌, ◌≡◌, ltb, eqb, length, get_or, drop}
 use Rattle.rules.specs.Lists.{sum, Every}
 use Rattle.rules.specs.Layout.{Case, case_of}
 use Rattle.rules.specs.Refusal.{file_verdict}

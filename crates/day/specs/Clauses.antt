@@ -1,5 +1,5 @@
 -- What the inner functions of a day ask and answer: records as two columns, a slot on the columns, one on the histories, all of them, and what a call opens with.
-use Rattle.std.specs.Prelude.{ℕ, zero, suc, ◌+◌, ◌*◌, ◌<◌, ◌≤◌, ◌≡◌, Bool, true, cond, List, ◌++◌, length, get_or, set, take, drop, replicate}
+use Rattle.std.specs.Prelude.{ℕ, zero, suc, ◌+◌, ◌*◌, ◌<◌, ◌≤◌, ◌≡◌, true, cond, List, ◌++◌, length, get_or, set, take, drop, replicate}
 use Rattle.rules.specs.Lists.{each, over}
 use Rattle.rules.specs.Layout.{count, unit_at, case_of}
 use Rattle.rules.specs.Refusal.{file_verdict}

@@ -5,11 +5,11 @@ use native.Mathlib.Omega.{arith}
 use mathlib.Core.Path.{◌≡◌, refl, ap, sym, ◌∙◌}
 use mathlib.Core.Bool.{Bool, true, false, cond}
 use mathlib.Core.List.{List, [], ◌∷◌, map}
-use lib.IntN.{ℤ, pos, ◌+ℤ◌, ◌-ℤ◌, ◌*ℤ◌}
+use lib.IntN.{ℤ, pos, ◌-ℤ◌}
 use lib.ListN.{length}
 use lib.Signed.{◌≤ℤ◌, le_z}
 use Rattle.fields.specs.Integers.{Is, positive_part, negative_part}
-use Rattle.fields.proofs.Integers.{itself, is_pos, is_add, is_minus, is-product, same, at_most, up_is, dn_is, ints, when_le, when_gt, yes_at_most, not_at_most}
+use Rattle.fields.proofs.Integers.{itself, is_pos, is_add, is_minus, is-product, same, at_most, up_is, dn_is, ints, when_le, when_gt, yes_at_most}
 use Rattle.rules.specs.Numbers.{total, divided_up, greatest_at}
 use Rattle.rules.specs.Problem.{Problem, target}
 use Rattle.rules.specs.Choice.{least_priced_cost, dual_value, floor}

@@ -3,15 +3,15 @@ use Prim.Native.Nat.{ℕ, zero, suc, ◌*◌, ◌≤◌, ◌<◌}
 use native.Mathlib.Omega.{arith}
 use mathlib.Core.Path.{◌≡◌, refl, sym, ap, subst, ◌∙◌}
 use mathlib.Core.Logic.{◌↔◌}
-use mathlib.Core.Bool.{true, not, ◌||◌}
+use mathlib.Core.Bool.{true}
 use mathlib.Core.List.{List, [], ◌∷◌, ◌++◌, map}
-use lib.Dec.{ltb, leb}
+use lib.Dec.{ltb}
 use lib.IntN.{ℤ, pos}
 use lib.ListN.{length, get_or}
 use lib.Signed.{◌≤ℤ◌}
 use borrow.Author.Tests.{leb-true, le-ltb}
 use Rattle.fields.proofs.Integers.{ints}
-use Rattle.rules.specs.Lists.{all, over, Every}
+use Rattle.rules.specs.Lists.{over, Every}
 use Rattle.rules.specs.Demands.{demands_invalid}
 use Rattle.rules.specs.Numbers.{divided_up, greatest_at}
 use Rattle.rules.specs.Layout.{case_of}
@@ -41,7 +41,7 @@ use Rattle.rules.proofs.Demand3.{case-accepted, demand3}
 use Rattle.rules.proofs.Replied.{replied}
 use Rattle.sensitivity.specs.declared.Floored.{Floored}
 use Rattle.sensitivity.specs.Floors.{dual_for, floor_for, floors_verdict, floors_end, floored, panel_floored}
-use Rattle.sensitivity.specs.Claims.{CarriedDual, OfThatDemand, Floors, Bounds, OwnDemand, NotAboveDispatch, AlikeFromOne, OneAtZero, ToldInC, RefusesAsDispatch}
+use Rattle.sensitivity.specs.Claims.{CarriedDual, OfThatDemand, Bounds, OwnDemand, NotAboveDispatch, AlikeFromOne, OneAtZero, ToldInC, RefusesAsDispatch}
 use Rattle.sensitivity.proofs.Carried.{at, dual_for_lem, floor_for_lem, dual-rises, dual_at_zero}
 use Rattle.sensitivity.proofs.Outcomes.{ended, floors-told}
 use Rattle.sensitivity.proofs.Tracing.{seen}

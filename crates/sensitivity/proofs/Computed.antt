@@ -1,11 +1,11 @@
 -- A dual value carried to another demand, as it is computed from a pair of the trace: in range, and read back as it is; and the greatest of them, pair by pair.
-use Prim.Native.Nat.{ℕ, suc, ◌+◌, ◌*◌, ◌≤◌, ◌<◌}
+use Prim.Native.Nat.{ℕ, ◌+◌, ◌*◌, ◌≤◌}
 use native.Mathlib.Nat.{mul-le-mul}
 use native.Mathlib.Omega.{arith}
-use mathlib.Core.Path.{◌≡◌, refl, ap, ap₂, sym, ◌∙◌}
+use mathlib.Core.Path.{◌≡◌, ap, ap₂, sym, ◌∙◌}
 use mathlib.Core.Bool.{cond}
 use mathlib.Core.List.{List, [], ◌∷◌}
-use lib.IntN.{ℤ, pos, ◌+ℤ◌, ◌*ℤ◌}
+use lib.IntN.{ℤ, ◌+ℤ◌, ◌*ℤ◌}
 use lib.ListN.{length}
 use lib.Signed.{le_z}
 use mir.Syntax.{w64}
@@ -15,7 +15,6 @@ use Rattle.fields.specs.Integers.{Is, positive_part, negative_part}
 use Rattle.fields.proofs.Integers.{itself, is_add, is-product, fits}
 use Rattle.rules.specs.Numbers.{greatest_at}
 use Rattle.rules.specs.Problem.{Problem}
-use Rattle.rules.specs.Choice.{dual_value}
 use Rattle.bisection.specs.Clauses.{multiplier_at, dual_at, Traces}
 use Rattle.sensitivity.specs.Clauses.{PairInRange, Shifted, carried}
 

@@ -1,17 +1,16 @@
 -- The trace that the search leaves for an accepted case: as many pairs as there were evaluations, each in range.
-use Prim.Native.Nat.{ℕ, suc, ◌+◌, ◌*◌, ◌≤◌, ◌<◌}
+use Prim.Native.Nat.{ℕ, ◌≤◌, ◌<◌}
 use native.Mathlib.Nat.{mul-le-mul}
 use native.Mathlib.Decide.{ℕ_discrete}
 use native.Mathlib.Omega.{arith}
-use mathlib.Core.Path.{◌≡◌, refl, sym, ap, subst, subst⁻¹, ◌∙◌}
+use mathlib.Core.Path.{◌≡◌, refl, sym, ap, ◌∙◌}
 use mathlib.Core.List.Memᴰ
 use mathlib.Core.List.{List, [], ◌∷◌, Memᴰ}
 use lib.IntN.{ℤ, pos}
 use lib.ListN.{length}
-use Rattle.fields.specs.Integers.{Is, positive_part, negative_part}
 use Rattle.fields.proofs.Integers.{up_is, dn_is, is_pos}
 use Rattle.rules.specs.Layout.{case_of}
-use Rattle.rules.specs.Problem.{total_cost, total_net, Problem, units_of, target, problem_of, problem_in}
+use Rattle.rules.specs.Problem.{total_cost, total_net, Problem, units_of, target, problem_in}
 use Rattle.rules.specs.Choice.{choices, dual_value}
 use Rattle.rules.specs.Bisection.{found}
 use Rattle.rules.specs.Calls.{case_verdict}

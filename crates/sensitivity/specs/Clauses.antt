@@ -1,5 +1,5 @@
 -- What the functions ask and answer of a trace: of every problem and list of multipliers whose dual values it has.
-use Rattle.std.specs.Prelude.{ℕ, ◌*◌, ◌≤◌, ◌<◌, ◌≡◌, List, map, ℤ, pos, ◌+ℤ◌, ◌*ℤ◌, length}
+use Rattle.std.specs.Prelude.{ℕ, ◌≤◌, ◌<◌, ◌≡◌, List, map, ℤ, pos, ◌+ℤ◌, ◌*ℤ◌, length}
 use Rattle.rules.specs.Lists.{over}
 use Rattle.rules.specs.Demands.{ValidDemands}
 use Rattle.rules.specs.Numbers.{divided_up, greatest_at}

@@ -13,9 +13,9 @@ use Rattle.stepping.proofs.Copying.{part-long}
 use Rattle.answering.specs.Answers.{number_of_state, numbers_asked}
 use Rattle.answering.proofs.Telling.{Small, asked-small, over-long, six_set, six_length, six_then}
 use native.Mathlib.Omega.{arith}
-use Prim.Native.Nat.{ℕ, ◌+◌, ◌≤◌, ◌<◌, ◌-◌, ◌*◌}
+use Prim.Native.Nat.{◌≤◌, ◌<◌}
 use lib.ListN.{length, length-set, length-map}
-use mathlib.Core.Path.{◌≡◌, refl, ap, sym, ◌∙◌}
+use mathlib.Core.Path.{◌≡◌, refl, ap, ◌∙◌}
 use borrow.Author.Rules.{rules}
 use Rattle.answering.proofs.tell_asked.Statement.{statement}
 use Rattle.answering.proofs.tell_asked.Tie as tie

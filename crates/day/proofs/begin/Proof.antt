@@ -1,13 +1,10 @@
 -- `day::begin` meets its contract: by the verdict.
-use native.Mathlib.Omega.{arith}
-use mathlib.Core.Path.{◌≡◌, refl, sym, ap, ap₂, ◌∙◌}
+use mathlib.Core.Path.{◌≡◌, sym, ap, ap₂, ◌∙◌}
 use borrow.Author.Rules.{rules}
 use Prim.Native.Nat.{ℕ}
 use lib.ListN.{length}
-use Rattle.rules.specs.Layout.{count}
 use Rattle.rules.specs.declared.Verdict.{Verdict}
 use Rattle.day.specs.declared.Columns.{Columns}
-use Rattle.day.specs.declared.Opening.{Opening}
 use Rattle.day.specs.Day.{day_verdict}
 use Rattle.day.specs.Clauses.{first_columns, opened}
 use Rattle.day.proofs.Opens.{accepts-day}

@@ -1,11 +1,10 @@
 -- `day::first_columns` meets its contract: after i turns the first i sets have their previous outputs from the file.
-use Prim.Native.Nat.{ℕ, ◌≤◌, ◌<◌, ◌-◌}
+use Prim.Native.Nat.{ℕ, ◌≤◌, ◌-◌}
 use native.Mathlib.Omega.{arith}
 use native.Mathlib.Numerals.{add-one}
-use mathlib.Core.Path.{◌≡◌, refl, sym, ap, ap₂, ◌∙◌}
+use mathlib.Core.Path.{◌≡◌, sym, ap, ap₂, ◌∙◌}
 use borrow.Author.Rules.{rules}
 use Rattle.rules.specs.Unit.{Unit}
-use Rattle.rules.specs.Layout.{unit_at}
 use Rattle.rules.proofs.Encoding.SoundFile.{sound-file, unit_at_sound}
 use Rattle.day.specs.declared.Columns.{Columns}
 use Rattle.day.specs.Clauses.{with_record, first_columns}

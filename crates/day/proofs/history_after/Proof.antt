@@ -1,5 +1,4 @@
 -- `day::history_after` meets its contract: a start where the previous output is 0 and the output is not.
-use native.Mathlib.Omega.{arith}
 use mathlib.Core.Path.{refl}
 use borrow.Author.Rules.{rules}
 use borrow.Author.Tests.{eq-eqb, ne_eqb, lt-ltb, le-ltb}

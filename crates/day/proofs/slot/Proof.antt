@@ -1,6 +1,6 @@
 -- `day::slot` meets its contract: the slot is solved, and what is made of that is the slot by its definition (`MadeSlot`).
 use native.Mathlib.Omega.{arith}
-use mathlib.Core.Path.{◌≡◌, sym, ap, ◌∙◌}
+use mathlib.Core.Path.{ap}
 use borrow.Author.Rules.{rules}
 use Rattle.day.specs.declared.SlotEnd.{SlotEnd}
 use Rattle.day.proofs.MadeSlot.{solution-asks, solved-end, solved-trace, refused_end, refused-trace}

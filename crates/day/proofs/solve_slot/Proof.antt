@@ -1,6 +1,5 @@
 -- `day::solve_slot` meets its contract: the units are decoded, and the problem that the arrays hold is solved (`Solving`).
 use borrow.Author.Rules.{rules}
-use borrow.Author.Tests.{not-true, not-false}
 use Rattle.day.proofs.Solving.{undecoded, searchable, solved}
 use Rattle.day.proofs.solve_slot.Statement.{statement}
 use Rattle.day.proofs.solve_slot.Tie as tie

@@ -1,9 +1,8 @@
 -- `day::verdict` meets its contract: the checks in their order. (Goals and facts named for a condition that an edit of must-fail changes are cited without that name.)
 use native.Mathlib.Omega.{arith}
-use mathlib.Core.Path.{◌≡◌, sym, ◌∙◌}
-use lib.ListN.{length}
+use mathlib.Core.Path.{sym, ◌∙◌}
 use borrow.Author.Rules.{rules}
-use borrow.Author.Tests.{lt-ltb, le-ltb, not-true, not-false}
+use borrow.Author.Tests.{lt-ltb, le-ltb}
 use Rattle.rules.proofs.Demands.{valid-demands}
 use Rattle.day.specs.Day.{day_verdict}
 use Rattle.day.proofs.verdict.Statement.{statement}

@@ -1,8 +1,8 @@
 -- `panel::file_for` meets its contract: by the number of places. (Goals and facts named for a condition that an edit of must-fail changes are cited without that name.)
 use native.Mathlib.Omega.{arith}
-use Prim.Native.Nat.{ℕ, ◌+◌, ◌≤◌, ◌<◌, ◌-◌, ◌*◌}
-use lib.ListN.{length, get_or, take, drop, set, length-set}
-use mathlib.Core.Path.{◌≡◌, refl, ap, sym, ◌∙◌}
+use Prim.Native.Nat.{ℕ, ◌≤◌, ◌<◌}
+use lib.ListN.{take}
+use mathlib.Core.Path.{◌≡◌, refl}
 use mathlib.Core.List.{List}
 use Prim.Native.Nat.{zero, suc}
 use Rattle.panel.specs.DayTold.{file_for}

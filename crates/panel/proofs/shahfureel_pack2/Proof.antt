@@ -1,5 +1,4 @@
 -- `panel::shahfureel_pack2` meets its contract: the call on slices, told to C (`Answers`).
-use native.Mathlib.Omega.{arith}
 use borrow.Author.Rules.{rules}
 use Rattle.rules.specs.Calls.{panel_packed_2}
 use Rattle.panel.proofs.Answers.{pack-told, packed-small}

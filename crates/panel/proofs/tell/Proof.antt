@@ -1,7 +1,7 @@
 -- `panel::tell` meets its contract: by the number of places and by the answer.
 use native.Mathlib.Omega.{arith}
-use Prim.Native.Nat.{ℕ, ◌+◌, ◌≤◌, ◌<◌, ◌-◌, ◌*◌}
-use lib.ListN.{length, get_or, take, drop, set, length-set}
+use Prim.Native.Nat.{ℕ, ◌≤◌, ◌<◌}
+use lib.ListN.{length, set}
 use mathlib.Core.Path.{◌≡◌, refl, ap, sym, ◌∙◌}
 use Prim.Native.Nat.{zero, suc}
 use mathlib.Core.List.{List, [], ◌∷◌}

@@ -1,12 +1,10 @@
 -- `sensitivity::greatest_dual` meets its contract: the loop keeps the greatest of the pairs so far (`Computed`).
-use Prim.Native.Nat.{ℕ, ◌+◌, ◌*◌, ◌-◌, ◌≤◌, ◌<◌}
+use Prim.Native.Nat.{◌+◌, ◌-◌, ◌≤◌, ◌<◌}
 use native.Mathlib.Omega.{arith}
 use mathlib.Core.Path.{◌≡◌, sym, subst, subst⁻¹, ap, ◌∙◌}
-use mathlib.Core.Bool.{cond}
 use lib.IntN.{ℤ, ◌+ℤ◌, ◌*ℤ◌}
-use lib.Signed.{le_z}
 use mir.Syntax.{w64}
-use mir.Val.{SFits, to_z, of_z}
+use mir.Val.{to_z, of_z}
 use mir.Facts.{to_z-of_z}
 use borrow.Author.Rules.{rules}
 use Rattle.bisection.specs.Clauses.{multiplier_at, dual_at}

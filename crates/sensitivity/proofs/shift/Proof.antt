@@ -4,8 +4,8 @@ use Prim.Native.Nat.{◌*◌}
 use mir.Syntax.{w64}
 use mir.Val.{SFits, to_z}
 use mir.Facts.{to_z-of_z, to_z_pos}
-use lib.IntN.{pos, ◌-ℤ◌}
-use mathlib.Core.Path.{◌≡◌, ap₂, ◌∙◌}
+use lib.IntN.{◌-ℤ◌}
+use mathlib.Core.Path.{ap₂, ◌∙◌}
 use borrow.Author.Rules.{rules}
 use Rattle.fields.proofs.Integers.{is_minus, cast, fits}
 use Rattle.sensitivity.proofs.shift.Statement.{statement}

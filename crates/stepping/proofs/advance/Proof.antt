@@ -5,7 +5,6 @@ use mathlib.Core.Path.{◌≡◌, sym, ap, ◌∙◌, subst⁻¹}
 use mathlib.Core.Bool.{true}
 use lib.ListN.{length, take}
 use borrow.Author.Rules.{rules}
-use borrow.Author.Tests.{not-true, not-false}
 use Rattle.rules.specs.Problem.{problem_in}
 use Rattle.evaluation.specs.Clauses.{First}
 use Rattle.evaluation.proofs.Covering.{first_found, first-refused}
