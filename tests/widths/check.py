@@ -12,15 +12,14 @@ WANTED = {
     "Choice": {"greatest": "u16", "least": "u16"},
     "Allocation": {"outputs": "[u16; 32]"},
     "narrow": {"": "[u16; 8]"},
-    "larger": {"a": "u16", "b": "u16", "": "u16"},
-    "smaller": {"a": "u16", "b": "u16", "": "u16"},
     "ramp_window": {"greatest": "u16", "previous": "u16", "up": "u16", "down": "u16", "": "Window"},
-    "interval_end": {"edges": "&[u16; 8]", "greatest": "u16", "": "u16"},
+    "write_region": {"low": "u16", "high": "u16"},
     "write_regions": {"ends": "&mut [u16]"},
-    "region_reaching": {"ends": "&[u16; 384]", "v": "u16"},
+    "Permitted": {"ends": "&'a [u16; 384]"},
+    "region_reaching": {"v": "u16", "": "usize"},
     "better": {"below": "u16", "above": "u16", "": "Choice"},
-    "choose_beside": {"ends": "&[u16; 384]", "v": "u16", "": "Choice"},
-    "choose_running": {"ends": "&[u16; 384]", "": "Choice"},
+    "choose_beside": {"v": "u16", "": "Choice"},
+    "choose_running": {"": "Choice"},
     "choose": {"ends": "&[u16; 384]", "": "Choice"},
     "cost_of": {"p": "u16"},
     "net_of": {"p": "u16"},
@@ -31,7 +30,7 @@ WANTED = {
 
 def declared(text):
     """The structs and functions of a file, each with the types of its parts."""
-    for name, fields in re.findall(r"\bstruct (\w+) \{(.*?)\}", text, re.S):
+    for name, fields in re.findall(r"\bstruct (\w+)(?:<[^>]*>)? \{(.*?)\}", text, re.S):
         yield name, dict(re.findall(r"(\w+): ([^,\n]+),", fields))
     for name, parameters, result in re.findall(r"\bfn (\w+)\((.*?)\)(?: -> ([^\n{]+))?\n", text, re.S):
         yield name, {**dict(re.findall(r"(\w+): ([^,]+?)(?:,|$)", parameters)), "": result.strip()}

@@ -1,14 +1,19 @@
 -- What is told in C: one number at the start of a list; and of an ask, that its amounts are small, and six numbers with the outputs behind them are the 38 of the definition.
 use Prim.Native.Nat.{ℕ, ◌≤◌}
 use native.Mathlib.Omega.{arith}
-use mathlib.Core.Path.{◌≡◌, refl, ◌∙◌, subst⁻¹}
+use mathlib.Core.Path.{◌≡◌, refl, ap, ◌∙◌, subst⁻¹}
+use mir.Syntax.{w64}
+use mir.Val.{to_z}
+use mir.Facts.{to_z_pos}
 use mathlib.Core.Bool.{Bool, true, false}
 use mathlib.Core.List.{List, [], ◌∷◌, map}
 use lib.IntN.{ℤ, pos}
-use lib.ListN.{length, set, length-map, length-set, length-drop, length-append}
+use lib.ListN.{length, set, drop, length-map}
 use Rattle.rules.specs.Lists.{over}
-use Rattle.rules.proofs.Encoding.Front.{lent, given_back, front-none, front-set, front_tail, front-over}
+use Rattle.rules.proofs.Encoding.Front.{lent, given_back, front-made, front_tail, front-over}
+use Rattle.stepping.specs.declared.State.{State}
 use Rattle.stepping.specs.declared.Asked.{Asked}
+use Rattle.answering.specs.Answers.{number_of_state}
 use Rattle.stepping.specs.Runs.{run_in, begun, asked}
 use Rattle.stepping.proofs.Fitting.{fitting}
 use Rattle.stepping.proofs.Endings.{ask-unstarted, ask-begun}
@@ -31,21 +36,16 @@ by-begun numbers false e = subst⁻¹ Small (ask-unstarted numbers e) (record { 
 pub asked-small : (numbers : List ℕ) → Small (asked numbers)
 asked-small numbers = by-begun numbers (begun (run_in numbers)) refl
 
-pub over-long : (xs s : List ℤ) → length xs ≤ length s → length (over xs s) ≡ length s
-over-long xs s h = simp (length-append, length-drop) (omega arith)
+pub six_then : (s : List ℤ) (a b c d e f : ℤ) (outputs : List ℕ) (t : List ℤ) → length outputs ≡ 32 → let w = a ∷ b ∷ c ∷ d ∷ e ∷ f ∷ drop 6 s in t ≡ over (map pos outputs) (lent 6 w) → given_back 6 w t ≡ over (a ∷ b ∷ c ∷ d ∷ e ∷ f ∷ map pos outputs) s
+six_then s a b c d e f outputs t long h =
+    front-over (front_tail (front-made s (a ∷ b ∷ c ∷ d ∷ e ∷ f ∷ []) _ 6 refl refl) t (map pos outputs) 32 (length-map outputs pos ∙ long) h)
 
-abbrev pub six_set : List ℤ → ℤ → ℤ → ℤ → ℤ → ℤ → ℤ → List ℤ
-six_set s a b c d e f = set (set (set (set (set (set s 0 a) 1 b) 2 c) 3 d) 4 e) 5 f
+-- ---- a state
 
-pub six_length : (s : List ℤ) (a b c d e f : ℤ) → length (six_set s a b c d e f) ≡ length s
-six_length s a b c d e f = simp length-set
+state-small : (s : State) → number_of_state s ≤ 2
+state-small State.NotStarted = omega arith
+state-small State.Unfinished = omega arith
+state-small State.Finished = omega arith
 
-pub six_then : (s : List ℤ) (a b c d e f : ℤ) (outputs : List ℕ) (t : List ℤ) → length outputs ≡ 32 → 38 ≤ length s → t ≡ over (map pos outputs) (lent 6 (six_set s a b c d e f)) → given_back 6 (six_set s a b c d e f) t ≡ over (a ∷ b ∷ c ∷ d ∷ e ∷ f ∷ map pos outputs) s
-six_then s a b c d e f outputs t long room h =
-    let f₁ = front-set (front-none s) a (omega arith) in
-    let f₂ = front-set f₁ b (omega arith) in
-    let f₃ = front-set f₂ c (omega arith) in
-    let f₄ = front-set f₃ d (omega arith) in
-    let f₅ = front-set f₄ e (omega arith) in
-    let f₆ = front-set f₅ f (omega arith) in
-    front-over (front_tail f₆ t (map pos outputs) 32 (length-map outputs pos ∙ long) h)
+pub state-told : {n : ℕ} (s : State) → n ≡ number_of_state s → to_z w64 n ≡ pos (number_of_state s)
+state-told s e = to_z_pos w64 (omega (arith, e, state-small s)) ∙ ap pos e

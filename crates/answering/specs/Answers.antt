@@ -1,19 +1,18 @@
 -- Rule 23.4 of docs/SPECIFICATION.md: start, advance and ask of a run in C. The number that each returns, and what it puts into a lent list of signed numbers.
-use Rattle.std.specs.Prelude.{ℕ, cond, List, [], ◌∷◌, map, ltb, ℤ, pos, length}
+use Rattle.std.specs.Prelude.{ℕ, cond, List, [], ◌∷◌, map, ltb, ℤ, pos, length, Result, Ok, Err}
 use Rattle.rules.specs.Lists.{over}
 use Rattle.rules.specs.Refusal.{number_of}
+use Rattle.rules.specs.declared.Refusal.{Refusal}
 use Rattle.rules.specs.declared.Refusal.TheVariants.{BufferTooShort}
-use Rattle.stepping.specs.declared.Started.{Started}
-use Rattle.stepping.specs.declared.Advanced.{Advanced}
 use Rattle.stepping.specs.declared.State.{State}
 use Rattle.stepping.specs.declared.Asked.{Asked}
 use Rattle.stepping.specs.Runs.{started, advanced_by, asked}
 
 -- ---- start
 
-abbrev pub number_of_started : Started → ℕ
-number_of_started Started.Begun = 0
-number_of_started (Started.Refused r) = number_of r
+abbrev pub number_of_started : Result (Unit {0}) Refusal → ℕ
+number_of_started (Ok u) = 0
+number_of_started (Err r) = number_of r
 
 pub record PanelStartResult : Type 0 where
   pub number : ℕ
@@ -25,18 +24,19 @@ panel_started numbers bytes file = let s = started numbers bytes file in record 
 
 -- ---- advance
 
-abbrev pub number_of_advanced : Advanced → ℕ
-number_of_advanced Advanced.Unfinished = 0
-number_of_advanced Advanced.Finished = 0
-number_of_advanced Advanced.NotStarted = 0
-number_of_advanced (Advanced.Refused r) = number_of r
+abbrev pub number_of_state : State → ℕ
+number_of_state State.NotStarted = 0
+number_of_state State.Unfinished = 1
+number_of_state State.Finished = 2
+
+abbrev pub number_of_advanced : Result State Refusal → ℕ
+number_of_advanced (Ok s) = 0
+number_of_advanced (Err r) = number_of r
 
 -- the state in the first place
-abbrev pub answers_of_advanced : Advanced → List ℤ → List ℤ
-answers_of_advanced Advanced.Unfinished answers = over (pos 1 ∷ []) answers
-answers_of_advanced Advanced.Finished answers = over (pos 2 ∷ []) answers
-answers_of_advanced Advanced.NotStarted answers = over (pos 0 ∷ []) answers
-answers_of_advanced (Advanced.Refused r) answers = answers
+abbrev pub answers_of_advanced : Result State Refusal → List ℤ → List ℤ
+answers_of_advanced (Ok s) answers = over (pos (number_of_state s) ∷ []) answers
+answers_of_advanced (Err r) answers = answers
 
 pub record PanelAdvanceResult : Type 0 where
   pub number : ℕ
@@ -52,11 +52,6 @@ panel_advanced numbers bytes file answers =
     cond (ltb (length answers) 1) short told
 
 -- ---- ask
-
-abbrev pub number_of_state : State → ℕ
-number_of_state State.NotStarted = 0
-number_of_state State.Unfinished = 1
-number_of_state State.Finished = 2
 
 -- 38 numbers: state, count, evaluations, cost, gap, surplus, and the 32 outputs
 abbrev pub numbers_asked : Asked → List ℤ

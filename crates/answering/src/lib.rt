@@ -6,37 +6,30 @@ ghost use Rattle.rules.specs.Lists.{over};
 ghost use Rattle.stepping.specs.Runs.{asked};
 ghost use Rattle.answering.specs.Answers.{number_of_started, number_of_advanced, answers_of_advanced, number_of_state, numbers_asked};
 
-use stepping::{Advanced, Asked, Started, State};
+use rules::Refusal;
+use stepping::State;
 
 // The number of a start's answer.
-pub fn tell_started(s: Started) -> u32
+pub fn tell_started(s: Result<(), Refusal>) -> u32
     ensures { result ≡ number_of_started s }
 {
     match s {
-        Started::Begun => 0,
-        Started::Refused(r) => refusal_number::number(r),
+        Ok(()) => 0,
+        Err(r) => refusal_number::number(r),
     }
 }
 
 // Writes the state that an advance tells, and gives its number.
-pub fn tell_advanced(a: Advanced, answers: &mut [i64]) -> u32
+pub fn tell_advanced(a: Result<State, Refusal>, answers: &mut [i64]) -> u32
     requires { 1 ≤ length answers.old }
     ensures { (result ≡ number_of_advanced a) × (answers.new ≡ answers_of_advanced a answers.old) }
 {
     match a {
-        Advanced::Unfinished => {
-            answers[0] = 1;
+        Ok(state) => {
+            answers[0] = number_of_state(state) as i64;
             0
         }
-        Advanced::Finished => {
-            answers[0] = 2;
-            0
-        }
-        Advanced::NotStarted => {
-            answers[0] = 0;
-            0
-        }
-        Advanced::Refused(r) => refusal_number::number(r),
+        Err(r) => refusal_number::number(r),
     }
 }
 
@@ -56,10 +49,9 @@ fn write_outputs(list: &mut [i64], outputs: [u16; 32])
     requires { 32 ≤ length list.old }
     ensures { list.new ≡ over (map pos outputs) list.old }
 {
-    let mut i = 0;
-    while i < 32 {
+    // (indices: two lists of different widths)
+    for i in 0..32 {
         list[i] = outputs[i] as i64;
-        i += 1;
     }
 }
 
@@ -68,20 +60,14 @@ pub fn tell_asked(run: &[u64; 41], answers: &mut [i64])
     requires { 38 ≤ length answers.old }
     ensures { answers.new ≡ over (numbers_asked (asked run.now)) answers.old }
 {
-    let Asked {
-        state,
-        count,
-        evaluations,
-        cost,
-        gap,
-        surplus,
-        outputs,
-    } = stepping::ask(run);
-    answers[0] = number_of_state(state) as i64;
-    answers[1] = count as i64;
-    answers[2] = evaluations as i64;
-    answers[3] = cost as i64;
-    answers[4] = gap as i64;
-    answers[5] = surplus as i64;
-    write_outputs(&mut answers[6..], outputs);
+    let told = stepping::ask(run);
+    answers[..6].copy_from_slice(&[
+        number_of_state(told.state) as i64,
+        told.count as i64,
+        told.evaluations as i64,
+        told.cost as i64,
+        told.gap as i64,
+        told.surplus as i64,
+    ]);
+    write_outputs(&mut answers[6..], told.outputs);
 }

@@ -1,16 +1,14 @@
 -- The distance of a cost above a floor, in signed 64 bits.
-use Prim.Native.Nat.{ℕ, ◌+◌, ◌-◌, ◌≤◌, ◌<◌}
+use Prim.Native.Nat.{ℕ, ◌+◌, ◌-◌, ◌≤◌}
 use native.Mathlib.Omega.{arith}
 use mathlib.Core.Path.{◌≡◌, sym, ◌∙◌}
-use lib.Dec.{T}
 use lib.IntN.{ℤ, pos, nat_abs, ◌-ℤ◌}
-use lib.Signed.{non_neg}
 use mir.Syntax.{w64}
 use mir.Val.{SFits, to_z, of_z}
 use mir.Facts.{to_z-of_z}
 use Rattle.rules.specs.Numbers.{natural}
 use Rattle.fields.specs.Integers.{positive_part, negative_part, Is}
-use Rattle.fields.proofs.Integers.{itself, is_pos, is_minus, cast, fits, kept, not_negative, size_is, up_is, one-zero, ints}
+use Rattle.fields.proofs.Integers.{itself, is_pos, is_minus, cast, kept, size_is, up_is, one-zero, ints}
 use Rattle.rules.proofs.Economics.Quantities.{natural-up}
 use Rattle.bisection.specs.Clauses.{Measurable}
 
@@ -27,20 +25,11 @@ module _ {cost : ℕ} {floor : ℤ} (s : Measurable cost floor) (fitted : SFits 
       let read : Is (to_z w64 (of_z w64 floor)) (positive_part floor) 0 = record { is = rw (to_z-of_z {w = w64} fitted) (omega (arith, between)) } in
       is_minus (cast cost (omega (arith, s.range))) read
 
-  pub distance-fits : SFits w64 computed
-  distance-fits = fits difference (omega (arith, s.range)) (omega (arith, between, s.range))
-
   again : Is (to_z w64 (of_z w64 computed)) (cost + 0) (0 + positive_part floor)
   again = kept difference (omega (arith, s.range)) (omega (arith, between, s.range))
 
-  pub distance_not_negative : T (non_neg (to_z w64 (of_z w64 computed)))
-  distance_not_negative = not_negative again (omega (arith, between))
-
   size : nat_abs (to_z w64 (of_z w64 computed)) ≡ cost - positive_part floor
   size = size_is again (omega (arith, between)) ∙ omega arith
-
-  pub distance-small : nat_abs (to_z w64 (of_z w64 computed)) < 18446744073709551616
-  distance-small = omega (arith, size, s.range)
 
   pub distance_is : nat_abs (to_z w64 (of_z w64 computed)) ≡ natural (pos cost -ℤ floor)
   distance_is = size ∙ sym (natural-up (pos cost -ℤ floor) ∙ up_is (is_minus (is_pos cost) (itself floor)) ∙ omega (arith, between))

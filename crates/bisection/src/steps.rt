@@ -6,6 +6,7 @@ ghost use Rattle.bisection.specs.Clauses.{Holding, Searchable, sums_of, recorded
 
 use evaluation::{Evaluated, Sums};
 use lowering::lower;
+use site::Site;
 
 // Outputs of the units, with their cost and net together.
 #[derive(Clone, Copy)]
@@ -27,7 +28,7 @@ pub struct Found {
 pub fn greater(a: i64, b: i64) -> i64
     ensures { result ≡ cond (le_z a b) b a }
 {
-    if a <= b { b } else { a }
+    a.max(b)
 }
 
 // Notes an evaluation, the one of number `k` from 0: its multiplier and dual value as pair `k` of the trace, if that has room for it.
@@ -55,120 +56,66 @@ pub struct SearchState {
     pub most: u16,
 }
 
+impl SearchState {
+    // The same, finished.
+    fn finished(self) -> SearchState
+        ensures { result ≡ record { best = self.best; floor = self.floor; evaluations = self.evaluations; low = 0; width = 0; most = self.most } }
+    {
+        SearchState {
+            low: 0,
+            width: 0,
+            ..self
+        }
+    }
+}
+
 // Steps 2 to 4 from where a search stands, until it is finished or has made `most` evaluations. Each turn evaluates the next
 // multiplier and halves the width; a multiplier that does not cover becomes the low end. What is evaluated is noted in the trace.
-pub fn search_from(
-    coefficients: &[u64; 160],
-    ends: &[u16; 384],
-    ranges: &[u8; 64],
-    n: usize,
-    target: u64,
-    start: SearchState,
-    trace: &mut [i64],
-) -> SearchState
-    requires { Searchable coefficients.now ends.now ranges.now n target × Begun start }
-    ensures { SearchesFrom (Holding coefficients.now ends.now ranges.now n target) n start trace.old result trace.new }
+pub fn search_from(site: &Site, start: SearchState, trace: &mut [i64]) -> SearchState
+    requires { Searchable site.now.coefficients site.now.ends site.now.ranges site.now.count site.now.target × Begun start }
+    ensures { SearchesFrom (Holding site.now.coefficients site.now.ends site.now.ranges site.now.count site.now.target) site.now.count start trace.old result trace.new }
 {
-    let SearchState {
-        mut best,
-        mut floor,
-        mut evaluations,
-        mut low,
-        mut width,
-        most,
-    } = start;
+    let mut state = start;
     let mut outputs = [0u16; 32];
     let mut least = [0u16; 32];
-    let reached = loop {
-        if width == 0 {
-            break SearchState {
-                best,
-                floor,
-                evaluations,
-                low: 0,
-                width: 0,
-                most,
-            };
+    for k in start.evaluations..start.most {
+        let adjacent = state.width == 0;
+        if adjacent {
+            break;
         }
-        if evaluations == most {
-            break SearchState {
-                best,
-                floor,
-                evaluations,
-                low,
-                width,
-                most,
-            };
-        }
-        let m = (low + width) % 131072;
-        width = width / 2;
-        let Evaluated { cost, net, ties } = evaluation::evaluate(
-            coefficients,
-            ends,
-            ranges,
-            n,
-            m,
-            &mut outputs,
-            &mut least,
-        );
+        let m = (state.low + state.width) % 131072;
+        state.width /= 2;
+        let Evaluated { cost, net, ties } = evaluation::evaluate(site, m, &mut outputs, &mut least);
         let s = Sums { cost, net };
-        let dual = evaluation::dual_of(s, target, m);
-        note(trace, evaluations, m, dual);
-        floor = greater(evaluation::floor_of(dual), floor);
-        evaluations += 1;
-        if net >= target {
-            let Sums { cost, net } = lower(coefficients, n, target, s, ties, &least, &mut outputs);
-            best = Allocation { outputs, cost, net };
-            if m == 0 {
-                break SearchState {
-                    best,
-                    floor,
-                    evaluations,
-                    low: 0,
-                    width: 0,
-                    most,
-                };
-            }
-            if net == target {
-                break SearchState {
-                    best,
-                    floor,
-                    evaluations,
-                    low: 0,
-                    width: 0,
-                    most,
-                };
+        let dual = evaluation::dual_of(s, site.target, m);
+        note(trace, k, m, dual);
+        state.floor = evaluation::floor_of(dual).max(state.floor);
+        state.evaluations += 1;
+        let covers = net >= site.target;
+        if covers {
+            let Sums { cost, net } = lower(site, s, ties, &least, &mut outputs);
+            state.best = Allocation { outputs, cost, net };
+            let free = m == 0;
+            if free || net == site.target {
+                return state.finished();
             }
         } else {
-            if m == 65536 {
-                break SearchState {
-                    best,
-                    floor,
-                    evaluations,
-                    low: 0,
-                    width: 0,
-                    most,
-                };
+            let at_top = m == 65536;
+            if at_top {
+                return state.finished();
             }
-            low = m;
+            state.low = m;
         }
-    };
-    reached
+    }
+    let low = if state.width == 0 { 0 } else { state.low };
+    SearchState { low, ..state }
 }
 
 // Steps 2 to 4: `first` are the greatest outputs, which step 1 found to cover. Each evaluation is noted in the trace: one of 36
 // numbers has room for all.
-pub fn search(
-    coefficients: &[u64; 160],
-    ends: &[u16; 384],
-    ranges: &[u8; 64],
-    n: usize,
-    target: u64,
-    first: Allocation,
-    trace: &mut [i64],
-) -> Found
-    requires { Searchable coefficients.now ends.now ranges.now n target × Sized n (sums_of first) }
-    ensures { Searches (Holding coefficients.now ends.now ranges.now n target) n first result trace.new }
+pub fn search(site: &Site, first: Allocation, trace: &mut [i64]) -> Found
+    requires { Searchable site.now.coefficients site.now.ends site.now.ranges site.now.count site.now.target × Sized site.now.count (sums_of first) }
+    ensures { Searches (Holding site.now.coefficients site.now.ends site.now.ranges site.now.count site.now.target) site.now.count first result trace.new }
 {
     let start = SearchState {
         best: first,
@@ -183,7 +130,7 @@ pub fn search(
         floor,
         evaluations,
         ..
-    } = search_from(coefficients, ends, ranges, n, target, start, trace);
+    } = search_from(site, start, trace);
     Found {
         best,
         floor,

@@ -16,7 +16,7 @@ fn read_word(body: &[u8], at: usize) -> u32
     requires { at + 2 ≤ length body.now }
     ensures { result ≡ field body.now at 2 }
 {
-    fields::read_u16(body, at) as u32
+    u32::from(fields::read::<u16>(body, at))
 }
 
 // Where the edges of a body start.
@@ -31,58 +31,47 @@ fn read_linear_loss(body: &[u8], edition: u16) -> i32
     requires { edges_start edition ≤ length body.now }
     ensures { result ≡ linear_loss edition body.now }
 {
-    if edition != 2 {
-        return 0;
+    if edition == 2 {
+        fields::read::<i32>(body, 26)
+    } else {
+        0
     }
-    fields::read_i32(body, 26)
 }
 
 // The edges of a body with `z` zones, zero where unused.
+#[tactic(auto, unfolding(rules::specs::Layout::edge_of_body))]
 fn read_edges(body: &[u8], edition: u16, z: usize) -> [u32; 8]
     requires { (z ≤ 4) × (body_length edition z ≤ length body.now) }
     ensures { result ≡ each 8 (edge_of_body edition body.now z) }
 {
     let start = edges_start(edition);
     let mut edges = [0u32; 8];
-    let mut k = 0;
-    while k < 2 * z {
+    for k in 0..2 * z {
         edges[k] = read_word(body, start + 2 * k);
-        k += 1;
     }
     edges
 }
 
 // The numbers of a body.
+#[tactic(auto, unfolding(rules::specs::Layout::unit_of_body))]
 pub fn read_body(body: &[u8], edition: u16) -> Unit
     requires { BodyFits edition body.now }
     ensures { unit_held result ≡ unit_of_body edition body.now }
 {
-    let c0 = fields::read_u32(body, 0);
-    let c1 = fields::read_u32(body, 4);
-    let c2 = read_word(body, 8);
-    let b = read_word(body, 10);
-    let least = read_word(body, 12);
-    let greatest = read_word(body, 14);
-    let previous = read_word(body, 16);
-    let up = read_word(body, 18);
-    let down = read_word(body, 20);
-    let mark = read_word(body, 22);
     let zone_count = read_word(body, 24);
-    let b1 = read_linear_loss(body, edition);
-    let edges = read_edges(body, edition, zone_count as usize);
     Unit {
-        c0,
-        c1,
-        c2,
-        b,
-        b1,
-        least,
-        greatest,
-        previous,
-        up,
-        down,
-        mark,
+        c0: fields::read::<u32>(body, 0),
+        c1: fields::read::<u32>(body, 4),
+        c2: read_word(body, 8),
+        b: read_word(body, 10),
+        b1: read_linear_loss(body, edition),
+        least: read_word(body, 12),
+        greatest: read_word(body, 14),
+        previous: read_word(body, 16),
+        up: read_word(body, 18),
+        down: read_word(body, 20),
+        mark: read_word(body, 22),
         zone_count,
-        edges,
+        edges: read_edges(body, edition, zone_count as usize),
     }
 }

@@ -1,4 +1,5 @@
 -- The number of regions left to split off suffices: each split takes one off at least, nothing is split where none is left, and a case starts with at most 160. So a search with 160 is the search.
+use Rattle.std.specs.Prelude.{Ok}
 use mathlib.Core.Path.{◌≡◌, refl, sym, ap}
 use mathlib.Core.Bool.{Bool, true, false, cond, ◌||◌, true≢false}
 use mathlib.Core.List.{List, [], ◌∷◌, map}
@@ -14,7 +15,6 @@ use Rattle.rules.specs.Layout.{Case, unit_at, count, case_of}
 use Rattle.rules.specs.Refusal.{file_verdict}
 use Rattle.rules.specs.Bisection.{Reply}
 use Rattle.rules.specs.Sound.{Sound}
-use Rattle.rules.specs.declared.Verdict.{Verdict}
 use Rattle.rules.proofs.Lists.{length-each}
 use Rattle.rules.proofs.Verdicts.{either_way}
 use Rattle.rules.proofs.Encoding.SoundFile.{sound-file, units-sound}
@@ -93,11 +93,11 @@ unfolding refined_reply
 search_160 c s few budget = ap (reply_of_search c.demand) (sym (left-suffices c.demand budget 160 (root c) (at_most_160 c s few)))
 
 -- of an accepted file, which has 1 to 32 units
-pub units_in_range : (file : List ℕ) → file_verdict file ≡ Verdict.Accepted → (1 ≤ length (case_of file).units) × (length (case_of file).units ≤ 32)
+pub units_in_range : (file : List ℕ) → file_verdict file ≡ Ok tt → (1 ≤ length (case_of file).units) × (length (case_of file).units ≤ 32)
 unfolding case_of
 units_in_range file e =
     let head = ((sound-file file).0 e).head in
     omega (arith, length-each (count file) (unit_at file), head.count-least, head.count-greatest)
 
-pub file_160 : (file : List ℕ) → file_verdict file ≡ Verdict.Accepted → (budget : ℕ) → let c = case_of file in refined_reply budget c ≡ reply_of_search c.demand (search (tree c.demand) budget 160 (root c))
+pub file_160 : (file : List ℕ) → file_verdict file ≡ Ok tt → (budget : ℕ) → let c = case_of file in refined_reply budget c ≡ reply_of_search c.demand (search (tree c.demand) budget 160 (root c))
 file_160 file e budget = search_160 (case_of file) (units-sound file e) (units_in_range file e).1 budget

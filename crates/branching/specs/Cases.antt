@@ -1,5 +1,6 @@
 -- Rule 24.17 of docs/SPECIFICATION.md: searches within a budget, case by case, from the file's bytes to the reply's. Above each row stands the wrong rule that it shows. Each lent byte is 255, so that what is untouched shows.
-use Rattle.std.specs.Prelude.{ℕ, ◌+◌, ◌*◌, List, [], ◌∷◌, ◌++◌, refl, pos, length, replicate}
+use Rattle.rules.specs.declared.Refusal.{Refusal}
+use Rattle.std.specs.Prelude.{ℕ, ◌+◌, ◌*◌, List, [], ◌∷◌, ◌++◌, refl, pos, length, replicate, Ok, Err, Result}
 use Rattle.rules.specs.Lists.{over}
 use Rattle.rules.specs.Unit.{Unit}
 use Rattle.rules.specs.Layout.{file_of}
@@ -7,7 +8,6 @@ use Rattle.rules.specs.Refusal.{number_of}
 use Rattle.rules.specs.TableRows.{Row, Holds}
 use Rattle.rules.specs.Cases as cases
 use Rattle.rules.specs.CaseFiles.{u5, short_head, other_edition, no_unit, demand_above, byte_too_many, no_zone, linear_cost_above, edge_at_least, other_mark, put, with_linear_loss, U, marked, zoned, costing, shared_edge, shared_edge_file}
-use Rattle.rules.specs.declared.Dispatched.{Dispatched}
 use Rattle.branching.specs.Branching.{visit, search}
 use Rattle.branching.specs.Nodes.{offer_within, divided, reply_of_search, refined_reply}
 use Rattle.branching.specs.Refining.{refined_bytes, refine_verdict, refine_ends, refined, panel_refined}
@@ -29,9 +29,9 @@ pub data Answer : Type 0 where
 abbrev pub lent : ℕ → List ℕ
 lent room = replicate room 255
 
-abbrev pub of_refined : Dispatched → List ℕ → Answer
-of_refined (Dispatched.Replied n) reply = writes n reply
-of_refined (Dispatched.Refused r) reply = refuses (number_of r) reply
+abbrev pub of_refined : Result ℕ Refusal → List ℕ → Answer
+of_refined (Ok n) reply = writes n reply
+of_refined (Err r) reply = refuses (number_of r) reply
 
 -- what the rules give
 unfoldable pub answer : Call → Answer

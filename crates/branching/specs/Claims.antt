@@ -1,5 +1,5 @@
 -- Rules 24.12 to 24.16 of docs/SPECIFICATION.md (since S-11): what holds of the call, of a file's bytes and of the reply's. (Proved in proofs/Claims.)
-use Rattle.std.specs.Prelude.{ℕ, ◌+◌, ◌*◌, ◌-◌, ◌≤◌, ◌<◌, List, ◌↔◌, ◌⊎◌, ◌≡◌, length}
+use Rattle.std.specs.Prelude.{ℕ, ◌+◌, ◌*◌, ◌-◌, ◌≤◌, ◌<◌, List, ◌↔◌, ◌⊎◌, ◌≡◌, length, Ok, Err}
 use Rattle.rules.specs.Layout.{Case, case_of}
 use Rattle.rules.specs.Refusal.{file_verdict}
 use Rattle.rules.specs.Problem.{total_cost, total_net}
@@ -7,8 +7,6 @@ use Rattle.rules.specs.Calls.{DispatchResult, dispatched}
 use Rattle.rules.specs.Promise.{Permitted, Covering, reply_in}
 use Rattle.rules.specs.declared.Refusal.{Refusal}
 use Rattle.rules.specs.declared.Refusal.TheVariants.{BufferTooShort, NoAllocation, BudgetOutOfRange}
-use Rattle.rules.specs.declared.Verdict.{Verdict}
-use Rattle.rules.specs.declared.Dispatched.{Dispatched}
 use Rattle.branching.specs.Branching.{search}
 use Rattle.branching.specs.Nodes.{NodeUnit, splits, tree, RefinedReply}
 use Rattle.branching.specs.Refining.{refined_in, refined}
@@ -28,15 +26,15 @@ pub record Asked (budget : ℕ) (reply : List ℕ) : Type 0 where
 
 -- (rule 24.9) the reply's room is asked for first, then the budget, whatever the file is; nothing is written
 pub record RefusedFirst (file : List ℕ) (budget : ℕ) (reply : List ℕ) : Type 0 where
-  pub short : length reply < 94 → refined file budget reply ≡ record { answer = Dispatched.Refused BufferTooShort; reply = reply }
-  pub out_of_range : 94 ≤ length reply → (budget < 1) ⊎ (100000 < budget) → refined file budget reply ≡ record { answer = Dispatched.Refused BudgetOutOfRange; reply = reply }
+  pub short : length reply < 94 → refined file budget reply ≡ record { answer = Err BufferTooShort; reply = reply }
+  pub out_of_range : 94 ≤ length reply → (budget < 1) ⊎ (100000 < budget) → refined file budget reply ≡ record { answer = Err BudgetOutOfRange; reply = reply }
 
 abbrev pub RoomThenBudget : Type 0
 RoomThenBudget = (file : List ℕ) (budget : ℕ) (reply : List ℕ) → RefusedFirst file budget reply
 
 -- (rule 24.11) a length is 32 to 94, and every refusal's number below 30 (`Lengths.number_below_30`)
 abbrev pub LengthsInRange : Type 0
-LengthsInRange = (file : List ℕ) (budget : ℕ) (reply : List ℕ) (n : ℕ) → (refined file budget reply).answer ≡ Dispatched.Replied n → (32 ≤ n) × (n ≤ 94)
+LengthsInRange = (file : List ℕ) (budget : ℕ) (reply : List ℕ) (n : ℕ) → (refined file budget reply).answer ≡ Ok n → (32 ≤ n) × (n ≤ 94)
 
 -- (rule 24.12) what holds of a reply to a case
 pub record RefinedPromise (c : Case) (budget : ℕ) (r : RefinedReply) : Type 0 where
@@ -55,22 +53,22 @@ pub record RefinedPromise (c : Case) (budget : ℕ) (r : RefinedReply) : Type 0 
 
 -- of every accepted file: number 11 exactly where no allocation covers, and else a reply
 pub record Refines (file : List ℕ) (budget : ℕ) (result : DispatchResult) : Type 0 where
-  pub refuses : (result.answer ≡ Dispatched.Refused NoAllocation) ↔ ((ps : List ℕ) → Permitted (case_of file) ps → Covering (case_of file) ps → ⊥)
-  pub replies : ¬ (result.answer ≡ Dispatched.Refused NoAllocation) → result.answer ≡ Dispatched.Replied (30 + 2 * length (case_of file).units)
-  pub reply : ¬ (result.answer ≡ Dispatched.Refused NoAllocation) → RefinedPromise (case_of file) budget (refined_in result.reply)
+  pub refuses : (result.answer ≡ Err NoAllocation) ↔ ((ps : List ℕ) → Permitted (case_of file) ps → Covering (case_of file) ps → ⊥)
+  pub replies : ¬ (result.answer ≡ Err NoAllocation) → result.answer ≡ Ok (30 + 2 * length (case_of file).units)
+  pub reply : ¬ (result.answer ≡ Err NoAllocation) → RefinedPromise (case_of file) budget (refined_in result.reply)
 
 abbrev pub RefinesAccepted : Type 0
-RefinesAccepted = (file : List ℕ) (budget : ℕ) (reply : List ℕ) → file_verdict file ≡ Verdict.Accepted → Asked budget reply → Refines file budget (refined file budget reply)
+RefinesAccepted = (file : List ℕ) (budget : ℕ) (reply : List ℕ) → file_verdict file ≡ Ok tt → Asked budget reply → Refines file budget (refined file budget reply)
 
 -- (rule 24.13) it refuses what dispatch refuses, with the same number
 abbrev pub RefusesAsDispatch : Type 0
 RefusesAsDispatch =
     (file : List ℕ) (budget : ℕ) (reply other : List ℕ) → Asked budget reply → 92 ≤ length other
-    → (r : Refusal) → ((refined file budget reply).answer ≡ Dispatched.Refused r) ↔ ((dispatched file other).answer ≡ Dispatched.Refused r)
+    → (r : Refusal) → ((refined file budget reply).answer ≡ Err r) ↔ ((dispatched file other).answer ≡ Err r)
 
 -- (rule 24.14) a budget of 1 is dispatch, to the last output
 pub record LikeDispatch (units : ℕ) (result dispatch : DispatchResult) : Type 0 where
-  pub replied : dispatch.answer ≡ Dispatched.Replied (28 + 2 * units)
+  pub replied : dispatch.answer ≡ Ok (28 + 2 * units)
   pub nodes : (refined_in result.reply).nodes ≡ 1
   pub cost : (refined_in result.reply).cost ≡ (reply_in dispatch.reply).cost
   pub gap : (refined_in result.reply).gap ≡ (reply_in dispatch.reply).gap
@@ -80,7 +78,7 @@ pub record LikeDispatch (units : ℕ) (result dispatch : DispatchResult) : Type 
 abbrev pub FirstNodeIsDispatch : Type 0
 FirstNodeIsDispatch =
     (file reply other : List ℕ) (n : ℕ) → Asked 1 reply → 92 ≤ length other
-    → (refined file 1 reply).answer ≡ Dispatched.Replied n
+    → (refined file 1 reply).answer ≡ Ok n
     → LikeDispatch (length (case_of file).units) (refined file 1 reply) (dispatched file other)
 
 -- and none is worse than dispatch
@@ -91,7 +89,7 @@ pub record NoWorseThanDispatch (result dispatch : DispatchResult) : Type 0 where
 abbrev pub EachBudgetNoWorse : Type 0
 EachBudgetNoWorse =
     (file : List ℕ) (budget : ℕ) (reply other : List ℕ) (n : ℕ) → Asked budget reply → 92 ≤ length other
-    → (refined file budget reply).answer ≡ Dispatched.Replied n
+    → (refined file budget reply).answer ≡ Ok n
     → NoWorseThanDispatch (refined file budget reply) (dispatched file other)
 
 -- (rule 24.15) a larger budget raises neither the cost nor the gap, whichever buffers the two are given
@@ -103,13 +101,13 @@ pub record NoWorse (less more : DispatchResult) : Type 0 where
 abbrev pub LargerBudgetNoWorse : Type 0
 LargerBudgetNoWorse =
     (file : List ℕ) (budget larger : ℕ) (reply other : List ℕ) (n : ℕ) → Asked budget reply → Asked larger other → budget ≤ larger
-    → (refined file budget reply).answer ≡ Dispatched.Replied n
+    → (refined file budget reply).answer ≡ Ok n
     → NoWorse (refined file budget reply) (refined file larger other)
 
 -- (rule 24.16) a search that ends before its budget is spent gives the same bytes with every larger one
 abbrev pub EndedStaysSame : Type 0
 EndedStaysSame =
     (file : List ℕ) (budget larger : ℕ) (reply : List ℕ) (n : ℕ) → Asked budget reply → Asked larger reply → budget ≤ larger
-    → (refined file budget reply).answer ≡ Dispatched.Replied n
+    → (refined file budget reply).answer ≡ Ok n
     → (refined_in (refined file budget reply).reply).nodes < budget
     → refined file larger reply ≡ refined file budget reply

@@ -1,13 +1,12 @@
 -- Rules 24.9 to 24.11 of docs/SPECIFICATION.md (since S-11): the call, on every input: its answer and the final contents of the reply; and its C form.
-use Rattle.std.specs.Prelude.{ℕ, ◌+◌, ◌*◌, ◌||◌, List, ◌++◌, ltb, length}
+use Rattle.std.specs.Prelude.{ℕ, ◌+◌, ◌*◌, ◌||◌, List, ◌++◌, ltb, length, Ok, Err}
 use Rattle.fields.specs.Field.{field, bytes, bytes_of_each}
 use Rattle.rules.specs.Lists.{each, over}
 use Rattle.rules.specs.Layout.{case_of}
 use Rattle.rules.specs.Refusal.{◌refuses◌, ◌then◌}
 use Rattle.rules.specs.Calls.{case_verdict, DispatchResult, PanelDispatchResult, number_of_dispatched}
 use Rattle.rules.specs.declared.Refusal.TheVariants.{BufferTooShort, BudgetOutOfRange}
-use Rattle.rules.specs.declared.Verdict.{Verdict}
-use Rattle.rules.specs.declared.Dispatched.{Dispatched}
+use Rattle.rules.specs.Refusal.{Verdict}
 use Rattle.branching.specs.Nodes.{RefinedReply, refined_reply}
 
 -- (rule 24.10) the reply: dispatch's (`Calls.reply_bytes`) with the nodes in 4 bytes instead of the evaluations in 2, so the outputs stand behind 30 bytes
@@ -35,10 +34,10 @@ refine_verdict file budget reply =
     then case_verdict file
 
 unfoldable pub refine_ends : Verdict → List ℕ → ℕ → List ℕ → DispatchResult
-refine_ends (Verdict.Refused r) file budget reply = record { answer = Dispatched.Refused r; reply = reply }
-refine_ends Verdict.Accepted file budget reply =
+refine_ends (Err r) file budget reply = record { answer = Err r; reply = reply }
+refine_ends (Ok _) file budget reply =
     let out = refined_bytes (refined_reply budget (case_of file)) in
-    record { answer = Dispatched.Replied (length out); reply = over out reply }
+    record { answer = Ok (length out); reply = over out reply }
 
 unfoldable pub refined : List ℕ → ℕ → List ℕ → DispatchResult
 refined file budget reply = refine_ends (refine_verdict file budget reply) file budget reply

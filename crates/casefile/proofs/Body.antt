@@ -1,37 +1,34 @@
 -- The verdict on a body: a zone count that does not fit, or else the verdict on its unit.
+use Rattle.std.specs.Prelude.{Ok, Err}
 use Prim.Native.Nat.{ℕ, ◌*◌, ◌≤◌, ◌<◌}
 use native.Mathlib.Decide.{dec_lt}
 use native.Mathlib.Omega.{arith}
-use mathlib.Core.Path.{◌≡◌, ap, ◌∙◌}
-use mathlib.Core.Bool.{false, not}
+use mathlib.Core.Path.{◌≡◌, ◌∙◌}
+use mathlib.Core.Bool.{false}
 use mathlib.Core.List.{List}
-use lib.Dec.{ltb, eqb}
 use lib.ListN.{length, get_or, get_or-eq_default}
-use borrow.Author.Tests.{le-ltb, eq-eqb, ne_eqb, ltb-false}
+use Rattle.std.proofs.lemmas.Bool.Decides.{nat_tests}
+use borrow.Author.Tests.{le-ltb, eq-eqb}
 use Rattle.fields.specs.Field.{field}
 use Rattle.rules.specs.Lists.{each}
 use Rattle.rules.specs.Layout.{edge_of_body, unit_of_body, body_length, edition, body}
-use Rattle.rules.specs.Refusal.{zone_count_invalid, body_verdict, unit_verdict}
+use Rattle.rules.specs.Refusal.{zone_count_invalid, body_verdict, unit_verdict, Verdict}
 use Rattle.rules.specs.declared.Refusal.TheVariants.{ZoneCountInvalid}
-use Rattle.rules.specs.declared.Verdict.{Verdict}
-use Rattle.rules.specs.declared.Verdict.TheVariants.{Accepted, Refused}
 use Rattle.rules.proofs.Lists.{get_or_each}
 use Rattle.rules.proofs.Verdicts.{or_false, not_is_false}
 use Rattle.rules.proofs.Sound.{zero-unused}
 use Rattle.rules.proofs.Encoding.Body.{edges-start, sound-body}
 use Rattle.bodies.specs.Clauses.{BodyFits}
-use Rattle.casefile.proofs.Head.{or-true}
 
 edge-unused : (e : ℕ) (s : List ℕ) (z k : ℕ) → 2 * z ≤ k → edge_of_body e s z k ≡ 0
 unfolding edge_of_body
 edge-unused e s z k h = rw (le-ltb k (2 * z) h)
 
 module _ (e : ℕ) (s : List ℕ) where
-  pub body-misfits : (field s 24 2 ≤ 4 → length s ≡ body_length e (field s 24 2) → ⊥) → body_verdict e s ≡ Refused ZoneCountInvalid
+  pub body-misfits : (field s 24 2 ≤ 4 → length s ≡ body_length e (field s 24 2) → ⊥) → body_verdict e s ≡ Err ZoneCountInvalid
   unfolding body_verdict unit_of_body
   body-misfits h =
-      rw (or-true (ltb 4 (field s 24 2)) (not (eqb (length s) (body_length e (field s 24 2))))
-      (λ t. ap not (ne_eqb (length s) (body_length e (field s 24 2)) (h (ltb-false 4 (field s 24 2) t)))))
+      grind (arith, nat_tests)
 
   pub body-fits : BodyFits e s → body_verdict e s ≡ unit_verdict (unit_of_body e s)
   unfolding body_verdict unit_of_body
@@ -48,7 +45,7 @@ module _ (e : ℕ) (s : List ℕ) where
       unused k l (no h) = get_or-eq_default (each 8 (edge_of_body e s (field s 24 2))) 0 {n = k} (omega arith)
 
   -- an accepted body can be read
-  pub body-accepted : body_verdict e s ≡ Accepted → BodyFits e s
+  pub body-accepted : body_verdict e s ≡ Ok tt → BodyFits e s
   unfolding unit_of_body
   body-accepted a = let b = sound-body e s a in record { zones = b.zones; size = b.size; long = omega (arith, b.size, edges-start e) }
 

@@ -1,4 +1,5 @@
 -- The contents: what the loop over the entries keeps, and that accepted entries name bodies inside the file.
+use Rattle.std.specs.Prelude.{Ok}
 use Prim.Native.Nat.{ℕ, ◌+◌, ◌*◌, ◌≤◌, ◌<◌}
 use native.Mathlib.Decide.{dec_lt}
 use native.Mathlib.Numerals.{add-one}
@@ -6,15 +7,15 @@ use native.Mathlib.Omega.{arith}
 use mathlib.Core.Path.{◌≡◌, ap, sym, ◌∙◌}
 use mathlib.Core.Bool.{Bool, true, false, not, ◌||◌, true≢false}
 use mathlib.Core.List.{List}
+use mathlib.Core.Logic.{◌⊎◌, inl, inr, ◌≢◌}
+use Rattle.std.proofs.lemmas.Grind.{common_steps}
 use lib.Dec.{ltb, eqb}
 use lib.ListN.{length, drop, length-drop}
 use lib.Seq.{length-take-le}
-use borrow.Author.Tests.{lt-ltb, le-ltb, eq-eqb, ne_eqb}
+use borrow.Author.Tests.{le-ltb, eq-eqb, ne_eqb}
 use Rattle.rules.specs.Lists.{each, all}
 use Rattle.rules.specs.Layout.{body_length, edition, count, offset, size, body}
-use Rattle.rules.specs.Refusal.{◌refuses◌, start, legal_size, entry_fits, contents_verdict}
-use Rattle.rules.specs.declared.Refusal.TheVariants.{ContentsInvalid}
-use Rattle.rules.specs.declared.Verdict.TheVariants.{Accepted}
+use Rattle.rules.specs.Refusal.{start, legal_size, entry_fits, contents_verdict}
 use Rattle.rules.proofs.Each.{rest-ends, rest_more}
 use Rattle.rules.proofs.Encoding.Body.{edges-start}
 use Rattle.rules.proofs.Encoding.SoundFile.{SoundContents, sound-contents, body-within}
@@ -58,9 +59,6 @@ pub record Passed (file : List ℕ) (n at i : ℕ) : Type 0 where
   pub fit : fit_from file n 0 ≡ fit_from file n i
 
 module _ (file : List ℕ) (n : ℕ) where
-  pub contents-short : length file < 8 + 4 * n → invalid file n ≡ true
-  contents-short h = rw (lt-ltb (length file) (8 + 4 * n) h)
-
   module _ (at i : ℕ) (p : Passed file n at i) where
     misfit : fit_from file n i ≡ false → invalid file n ≡ true
     misfit e = rw (le-ltb (length file) (8 + 4 * n) p.room, p.fit ∙ e)
@@ -73,38 +71,28 @@ module _ (file : List ℕ) (n : ℕ) where
         rw (le-ltb (length file) (8 + 4 * n) p.room, all, end)
 
     module _ (h : i < n) where
-      pub contents-offset : (offset file i ≡ at → ⊥) → invalid file n ≡ true
-      contents-offset m =
-          misfit (rw (rest_more n (λ k. k) i h, ne_eqb (offset file i) (start file i) (λ e. m (e ∙ sym p.ends))))
+      -- one of the two tests of entry i fails
+      pub contents-misfit : (offset file i ≢ at) ⊎ (legal_size (edition file) (size file i) ≡ false) → invalid file n ≡ true
+      contents-misfit (inl m) = misfit (rw (rest_more n (λ k. k) i h, ne_eqb (offset file i) (start file i) (λ e. m (e ∙ sym p.ends))))
+      contents-misfit (inr e) = misfit (rw (rest_more n (λ k. k) i h) (grind (arith, common_steps)))
 
-      module _ (o : offset file i ≡ at) where
-        follows : eqb (offset file i) (start file i) ≡ true
-        follows = eq-eqb (offset file i) (start file i) (o ∙ p.ends)
-
-        pub contents-size : legal_size (edition file) (size file i) ≡ false → invalid file n ≡ true
-        contents-size e = misfit (rw (rest_more n (λ k. k) i h, follows, e))
-
-        pub passed-more : legal_size (edition file) (size file i) ≡ true → Passed file n (offset file i + size file i) (i + 1)
-        passed-more e =
-            record {
-              within = omega arith;
-              room = p.room;
-              ends = rw (add-one i);
-              fit = p.fit ∙ rw (rest_more n (λ k. k) i h, follows, e);
-            }
+      pub passed-more : offset file i ≡ at → legal_size (edition file) (size file i) ≡ true → Passed file n (offset file i + size file i) (i + 1)
+      passed-more o e =
+          record {
+            within = omega arith;
+            room = p.room;
+            ends = rw (add-one i);
+            fit = p.fit ∙ rw (rest_more n (λ k. k) i h, eq-eqb (offset file i) (start file i) (o ∙ p.ends), e);
+          }
 
 -- ---- accepted contents
 
 pub inside : {file : List ℕ} → SoundContents file → (i : ℕ) → i < count file → BodyInside file i
 inside {file} s i h = record { entry = omega (arith, s.room); within = body-within s i h; long = legal-long (edition file) (size file i) (s.sizes i h) }
 
-pub body-inside : (file : List ℕ) → contents_verdict file ≡ Accepted → (i : ℕ) → i < count file → BodyInside file i
+pub body-inside : (file : List ℕ) → contents_verdict file ≡ Ok tt → (i : ℕ) → i < count file → BodyInside file i
 body-inside file accepted = inside ((sound-contents file).0 accepted)
 
 pub body-length : {file : List ℕ} {i : ℕ} → BodyInside file i → length (body file i) ≡ size file i
 body-length {file} {i} b =
     length-take-le (size file i) (drop (offset file i) file) (simp length-drop (omega (arith, b.within)))
-
-pub contents-verdict : (file : List ℕ) (n : ℕ) → n ≡ count file → contents_verdict file ≡ invalid file n refuses ContentsInvalid
-unfolding contents_verdict
-contents-verdict file n e = rw e

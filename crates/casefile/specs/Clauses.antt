@@ -1,15 +1,14 @@
 -- What the code requires of a head and of a body, and tells of a body's length.
-use Rattle.std.specs.Prelude.{ℕ, ◌+◌, ◌*◌, ◌≤◌, ◌≡◌, Bool, true, false, List, length}
+use Rattle.std.specs.Prelude.{ℕ, ◌+◌, ◌*◌, ◌≤◌, ◌≡◌, Bool, true, false, List, length, Err}
 use Rattle.rules.specs.Layout.{count, offset, size}
 use Rattle.rules.specs.Refusal.{body_verdict}
 use Rattle.rules.specs.declared.Refusal.{Refusal}
-use Rattle.rules.specs.declared.Verdict.{Verdict}
 use Rattle.bodies.specs.Clauses.{BodyFits}
 
 -- Whether a body of edition e fits its zone count: one that does not is refused.
 pub record FitTold (e : ℕ) (s : List ℕ) (r : Bool) : Type 0 where
   pub fits : r ≡ true → BodyFits e s
-  pub misfits : r ≡ false → body_verdict e s ≡ Verdict.Refused Refusal.ZoneCountInvalid
+  pub misfits : r ≡ false → body_verdict e s ≡ Err Refusal.ZoneCountInvalid
 
 -- A body that lies inside the file, and is long enough for a zone count.
 pub record BodyInside (file : List ℕ) (i : ℕ) : Type 0 where

@@ -2,20 +2,14 @@
 // outputs the priced cost falls until its vertex and rises from there, so that both lie beside the vertex; standing is compared apart.
 ghost use Rattle.std.specs.Prelude.{Bool, true, false, ◌≡◌, ◌+◌, ◌≤◌, ◌<◌};
 ghost use Rattle.rules.specs.Choice.{better as later·of, earlier as earlier·of};
-ghost use Rattle.regions.specs.Regions.{high};
+ghost use Rattle.regions.specs.Regions.{low, high};
 ghost use Rattle.site.specs.Site.{Within};
 ghost use Rattle.curve.specs.Curve.{height, priced_at, InRange};
 ghost use Rattle.choice.specs.Clauses.{Places, Reaching, Running, Beside, Choosable, Gives};
 
 use crate::Choice;
 use curve::{Curve, priced_cost};
-
-// An output in 64 bits.
-fn wide(x: u16) -> u64
-    ensures { result ≡ x }
-{
-    x as u64
-}
+use std::cmp::Ordering;
 
 // Two outputs that tie.
 fn both(below: u16, above: u16) -> Choice
@@ -46,96 +40,107 @@ fn better(c: Curve, below: u16, above: u16) -> Choice
 {
     let x = priced_cost(c, below);
     let y = priced_cost(c, above);
-    if x < y {
-        return only(below);
+    match x.cmp(&y) {
+        Ordering::Less => only(below),
+        Ordering::Equal => both(below, above),
+        Ordering::Greater => only(above),
     }
-    if y < x {
-        return only(above);
-    }
-    both(below, above)
 }
 
-// The first of the regions `first`..=`last` whose high reaches `v`, or the last.
-fn region_reaching(ends: &[u16; 384], first: usize, last: usize, v: u16) -> usize
-    requires { Places first last }
-    ensures { Reaching ends.now first last v result }
-{
-    let mut k = first;
-    while k < last {
-        if v <= ends[2 * k + 1] {
-            return k;
-        }
-        k += 1;
-    }
-    k
-}
-
-// The choice beside the vertex `v`, which lies from the lowest to the highest running output; `tied` if the output below `v`
-// costs the same.
-fn choose_beside(
-    ends: &[u16; 384],
+// The regions `first`..=`last` of a site's.
+#[derive(Clone, Copy)]
+struct Permitted<'a> {
+    ends: &'a [u16; 384],
     first: usize,
     last: usize,
-    c: Curve,
-    v: u16,
-    tied: bool,
-) -> Choice
-    requires { Beside ends.now first last c v tied }
-    ensures { Gives (height c) (Within ends.now first last) result }
-{
-    let k = region_reaching(ends, first, last, v);
-    let low = ends[2 * k];
-    if low < v {
-        if tied {
-            return both(v - 1, v);
+}
+
+impl<'a> Permitted<'a> {
+    // The lowest output.
+    fn lowest(&self) -> u16
+        requires { Places self.now.first self.now.last }
+        ensures { result ≡ low self.now.ends.now self.now.first }
+    {
+        self.ends[2 * self.first]
+    }
+
+    // The highest output.
+    fn highest(&self) -> u16
+        requires { Places self.now.first self.now.last }
+        ensures { result ≡ high self.now.ends.now self.now.last }
+    {
+        self.ends[2 * self.last + 1]
+    }
+
+    // The first region whose high reaches `v`, or the last.
+    fn region_reaching(&self, v: u16) -> usize
+        requires { Places self.now.first self.now.last }
+        ensures { Reaching self.now.ends.now self.now.first self.now.last v result }
+    {
+        for k in self.first..self.last {
+            if v <= self.ends[2 * k + 1] {
+                return k;
+            }
         }
-        return only(v);
+        self.last
     }
-    if k == first {
-        return only(low);
-    }
-    better(c, ends[2 * k - 1], low)
-}
 
-// The choice among running outputs: an end of them, unless the vertex lies between; all of them where the priced cost is flat.
-fn choose_running(ends: &[u16; 384], first: usize, last: usize, c: Curve) -> Choice
-    requires { Running ends.now first last c }
-    ensures { Gives (height c) (Within ends.now first last) result }
-{
-    let Curve { square, linear, .. } = c;
-    let lowest = ends[2 * first];
-    let highest = ends[2 * last + 1];
-    let over = square as i64 - linear;
-    let by = 2 * square;
-    if over > (by * wide(highest)) as i64 {
-        return only(highest);
+    // The choice beside the vertex `v`, which lies from the lowest to the highest running output; `tied` if the output below `v`
+    // costs the same.
+    fn choose_beside(&self, c: Curve, v: u16, tied: bool) -> Choice
+        requires { Beside self.now.ends.now self.now.first self.now.last c v tied }
+        ensures { Gives (height c) (Within self.now.ends.now self.now.first self.now.last) result }
+    {
+        let k = self.region_reaching(v);
+        let low = self.ends[2 * k];
+        if low < v {
+            if tied { both(v - 1, v) } else { only(v) }
+        } else if k == self.first {
+            only(low)
+        } else {
+            better(c, self.ends[2 * k - 1], low)
+        }
     }
-    if over < (by * wide(lowest)) as i64 {
-        return only(lowest);
-    }
-    if by == 0 {
-        return both(lowest, highest);
-    }
-    let twice = by as i64;
-    choose_beside(
-        ends,
-        first,
-        last,
-        c,
-        (over / twice) as u16,
-        over % twice == 0,
-    )
-}
 
-// The first running region: the one after 0..0, if `first` is that; one past the last if there is no other.
-fn first_running(ends: &[u16; 384], first: usize) -> usize
-    requires { first < 192 }
-    ensures { (high ends.now first ≡ 0 → result ≡ first + 1) × ((high ends.now first ≡ 0 → ⊥) → result ≡ first) }
-{
-    if ends[2 * first + 1] == 0 {
-        return first + 1;
+    // The choice among running outputs: an end of them, unless the vertex lies between; all of them where the priced cost is flat.
+    fn choose_running(&self, c: Curve) -> Choice
+        requires { Running self.now.ends.now self.now.first self.now.last c }
+        ensures { Gives (height c) (Within self.now.ends.now self.now.first self.now.last) result }
+    {
+        let lowest = self.lowest();
+        let highest = self.highest();
+        let over = c.square as i64 - c.linear;
+        let by = 2 * c.square;
+        if over > (by * highest as u64) as i64 {
+            return only(highest);
+        }
+        if over < (by * lowest as u64) as i64 {
+            return only(lowest);
+        }
+        let flat = by == 0;
+        if flat {
+            return both(lowest, highest);
+        }
+        let twice = by as i64;
+        self.choose_beside(c, (over / twice) as u16, over % twice == 0)
     }
-    first
+
+    // Without the region 0..0, if the first is that; no region may be left.
+    fn running(&self) -> Permitted<'a>
+        requires { self.now.first < 192 }
+        ensures ends { result.ends.now ≡ self.now.ends.now }
+        ensures last { result.last ≡ self.now.last }
+        ensures first { (high self.now.ends.now self.now.first ≡ 0 → result.first ≡ self.now.first + 1) × ((high self.now.ends.now self.now.first ≡ 0 → ⊥) → result.first ≡ self.now.first) }
+    {
+        if self.ends[2 * self.first + 1] == 0 {
+            Permitted {
+                first: self.first + 1,
+                ..*self
+            }
+        } else {
+            *self
+        }
+    }
 }
 
 // The choice among the regions `first`..=`last`; standing costs nothing.
@@ -143,21 +148,19 @@ pub fn choose(ends: &[u16; 384], first: usize, last: usize, c: Curve) -> Choice
     requires { Choosable ends.now first last c }
     ensures { Gives (priced_at c) (Within ends.now first last) result }
 {
-    let from = first_running(ends, first);
-    if from > last {
+    let permitted = Permitted { ends, first, last };
+    let running = permitted.running();
+    if running.first > last {
         return only(0);
     }
-    let running = choose_running(ends, from, last, c);
-    if from == first {
-        return running;
+    let choice = running.choose_running(c);
+    if running.first == first {
+        return choice;
     }
-    let p = running.greatest;
-    let priced = priced_cost(c, p);
-    if priced > 0 {
-        return only(0);
+    let p = choice.greatest;
+    match priced_cost(c, p).cmp(&0) {
+        Ordering::Greater => only(0),
+        Ordering::Equal => both(0, p),
+        Ordering::Less => choice,
     }
-    if priced == 0 {
-        return both(0, p);
-    }
-    running
 }

@@ -21,7 +21,8 @@ pub fn cost_of(coefficients: &[u64; 160], i: usize, p: u16) -> u64
     requires { AtOutput coefficients.now i p }
     ensures { (u : Unit) → Coefficients coefficients.now i u → result ≡ cost u p }
 {
-    if p == 0 {
+    let stands = p == 0;
+    if stands {
         return 0;
     }
     let k = 5 * i;

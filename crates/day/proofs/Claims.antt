@@ -1,10 +1,12 @@
 -- What holds of every day: laws of the slots one by one, by induction over the demands.
+use Rattle.std.specs.Prelude.{Ok, Err}
 use mathlib.Core.Path.{◌≡◌, refl, sym, ap, ◌∙◌}
 use Prim.Native.Nat.{ℕ, suc, ◌+◌, ◌*◌, ◌≤◌}
 use native.Mathlib.Omega.{arith}
 use mathlib.Core.Bool.{Bool, true, false, cond, ◌&&◌}
 use mathlib.Core.List.{List, [], ◌∷◌, ◌++◌, map, append_assoc, append-nil}
 use mathlib.Core.Logic.{◌↔◌}
+use Rattle.std.specs.Prelude.{Err}
 use lib.Dec.{ltb, eqb}
 use lib.ListN.{length, length-map, drop, length-append}
 use lib.Seq.{drop_at}
@@ -12,20 +14,18 @@ use borrow.Author.Tests.{le-ltb}
 use Rattle.rules.specs.Lists.{sum, Every, over}
 use Rattle.rules.specs.Unit.{Unit}
 use Rattle.rules.specs.Layout.{Case, count, case_of}
-use Rattle.rules.specs.Refusal.{file_verdict}
+use Rattle.rules.specs.Refusal.{file_verdict, Verdict}
 use Rattle.rules.specs.Problem.{Problem, problem_of}
 use Rattle.rules.specs.Bisection.{solvable, solve}
 use Rattle.rules.specs.Promise.{Permitted, Covering}
 use Rattle.rules.specs.Sound.{Sound}
 use Rattle.rules.specs.declared.Refusal.{Refusal}
-use Rattle.rules.specs.declared.Verdict.{Verdict}
 use Rattle.rules.proofs.Lists.{every_map, every_more}
 use Rattle.rules.proofs.Demands.{valid-demands}
 use Rattle.rules.proofs.Encoding.SoundFile.{sound-file, units-sound}
 use Rattle.rules.proofs.Economics.Solution.{reply-promise, covering-net, permitted-given}
 use Rattle.rules.proofs.Economics.Solvable.{unsolvable, case-proper}
 use Rattle.day.specs.declared.History.{History}
-use Rattle.day.specs.declared.Scheduled.{Scheduled}
 use Rattle.day.specs.Day.{slot_case, histories_after, histories_of, Slots, slot_bytes, solved_slot, refused_slot, one_slot, slots_more, slots_from, no_slot, day_of, day_verdict, day_ends, scheduled}
 use Rattle.day.specs.Claims.{cases_from, slot_cases, cost_of, bytes_of, joined, SumOfSlots, SlotPromise, EachSlot, last_outputs, previous_outputs, PreviousOfLastSolved, OneMore, solved_of, DayBounded, RefusesAsFile, Untouched}
 use Rattle.day.proofs.OneSlot.{slot_long, slot_sound, outputs-long, outputs-small, slot_histories, slot_cost}
@@ -182,7 +182,7 @@ from-starts c k s (d ∷ ds) m =
 
 -- ---- the claims
 
-pub first-fitting : (file : List ℕ) → file_verdict file ≡ Verdict.Accepted → Fitting (case_of file) (histories_of (case_of file))
+pub first-fitting : (file : List ℕ) → file_verdict file ≡ Ok tt → Fitting (case_of file) (histories_of (case_of file))
 first-fitting file a =
     let units = (case_of file).units in
     record {
@@ -244,10 +244,10 @@ day-bounded file demands a valid =
       previous = (from-fitting c sound s demands (first-fitting file a)).small;
     }
 
-ends-refused : (v : Verdict) (file demands trace : List ℕ) (histories : List History) (r : Refusal) → ((day_ends v file demands trace histories).answer ≡ Scheduled.Refused r) ↔ (v ≡ Verdict.Refused r)
+ends-refused : (v : Verdict) (file demands trace : List ℕ) (histories : List History) (r : Refusal) → ((day_ends v file demands trace histories).answer ≡ Err r) ↔ (v ≡ Err r)
 unfolding day_ends
-ends-refused Verdict.Accepted file demands trace histories r = (λ e. absurd (let z : ◌≡◌ {A = ℕ} 0 1 = cc in omega arith), λ e. absurd (let z : ◌≡◌ {A = ℕ} 0 1 = cc in omega arith))
-ends-refused (Verdict.Refused s) file demands trace histories r = (λ e. let z : s ≡ r = cc in rw z refl, λ e. let z : s ≡ r = cc in rw z refl)
+ends-refused (Ok _) file demands trace histories r = (λ e. absurd (let z : ◌≡◌ {A = ℕ} 0 1 = cc in omega arith), λ e. absurd (let z : ◌≡◌ {A = ℕ} 0 1 = cc in omega arith))
+ends-refused (Err s) file demands trace histories r = (λ e. let z : s ≡ r = cc in rw z refl, λ e. let z : s ≡ r = cc in rw z refl)
 
 pub refuses_as_file : RefusesAsFile scheduled
 unfolding scheduled day_verdict
@@ -265,10 +265,10 @@ unfolding slots_more
 from-long c s [] = omega arith
 from-long c s (d ∷ ds) = omega (arith, from-long c (slots_more c s d) ds, length-append s.trace (one_slot c s.histories d).trace, slot_long c s.histories d)
 
-ends-untouched : (v : Verdict) (file demands trace : List ℕ) (histories : List History) → (v ≡ Verdict.Accepted → file_verdict file ≡ Verdict.Accepted) → Untouched file demands trace histories (day_ends v file demands trace histories)
+ends-untouched : (v : Verdict) (file demands trace : List ℕ) (histories : List History) → (v ≡ Ok tt → file_verdict file ≡ Ok tt) → Untouched file demands trace histories (day_ends v file demands trace histories)
 unfolding day_ends day_of
-ends-untouched (Verdict.Refused r) file demands trace histories a = record { trace = refl; histories = refl }
-ends-untouched Verdict.Accepted file demands trace histories a =
+ends-untouched (Err r) file demands trace histories a = record { trace = refl; histories = refl }
+ends-untouched (Ok _) file demands trace histories a =
     let c = case_of file in
     let s = no_slot (histories_of c) in
     record {

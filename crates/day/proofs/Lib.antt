@@ -1,7 +1,6 @@
-pub mod Records
+pub mod Histories
 pub mod OneSlot
 pub mod Solving
-pub mod MadeSlot
 pub mod Folding
 pub mod Opens
 pub mod Claims

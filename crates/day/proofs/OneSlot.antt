@@ -1,16 +1,15 @@
--- One slot. Its case is sound where the previous outputs are in range, so that what holds of a dispatch holds of it: as many outputs as sets, none above 10,000, and a cost in range. And a slot on the columns is a slot of the rules.
+-- One slot. Its case is sound where the previous outputs are in range, so that what holds of a dispatch holds of it: as many outputs as sets, none above 10,000, and a cost in range. And what the code leaves of a slot is the slot of the rules.
 use mathlib.Core.Path.{◌≡◌, refl, sym, ap, ◌∙◌}
-use Prim.Native.Nat.{ℕ, suc, ◌+◌, ◌*◌, ◌≤◌}
+use Prim.Native.Nat.{ℕ, suc, ◌+◌, ◌≤◌}
 use native.Mathlib.Omega.{arith}
 use mathlib.Core.Bool.{Bool, true, false, true≢false, cond, ◌&&◌}
-use mathlib.Core.List.{List, [], ◌∷◌, ◌++◌}
+use mathlib.Core.List.{List, [], ◌∷◌}
 use lib.Dec.{ltb, eqb}
-use lib.ListN.{length, get_or, take, drop, length-append}
-use lib.Seq.{drop-drop}
+use lib.ListN.{length, length-append}
 use Rattle.fields.proofs.Width.{length-bytes}
-use Rattle.rules.specs.Lists.{each, Every}
+use Rattle.rules.specs.Lists.{over, Every}
 use Rattle.rules.specs.Unit.{Unit, permitted}
-use Rattle.rules.specs.Layout.{Case, case_of}
+use Rattle.rules.specs.Layout.{Case}
 use Rattle.rules.specs.Problem.{Problem, problem_of, allocation}
 use Rattle.rules.specs.Bisection.{solvable, solve}
 use Rattle.rules.specs.Promise.{ReplyPromise}
@@ -21,12 +20,11 @@ use Rattle.rules.proofs.Sound.{sound-previous}
 use Rattle.rules.proofs.Demand3.{allocation-small}
 use Rattle.rules.proofs.Economics.Solution.{reply-promise}
 use Rattle.rules.proofs.Economics.Totals.{total_cost_range}
+use Rattle.solving.specs.declared.Reply as code
 use Rattle.day.specs.declared.History.{History}
-use Rattle.day.specs.declared.Columns.{Columns}
-use Rattle.day.specs.declared.SlotEnd.{SlotEnd}
 use Rattle.day.specs.Day.{each_with_previous, slot_case, histories_after, slot_bytes, solved_slot, refused_slot, one_slot}
-use Rattle.day.specs.Clauses.{record_at, columns_after, slot_problem, slot_of, slot_trace, HistoryInRange}
-use Rattle.day.proofs.Records.{Full, after-each}
+use Rattle.day.specs.Clauses.{HistoryInRange, Replies, Leaves}
+use Rattle.day.proofs.Histories.{after-taken}
 
 -- ---- the case of a slot
 
@@ -126,33 +124,13 @@ module _ (c : Case) (hs : List History) (d : ℕ) where
         by true e = omega (arith, (slot_promise e).cost, total_cost_range (slot_case c hs d).units (solve q).outputs slot_sound (outputs-small e), case-long, few)
         by false e = omega arith
 
--- ---- on the columns
+-- ---- what the code leaves of it
 
-module _ (file demands : List ℕ) (k n : ℕ) (before : Columns) where
-  abbrev held : List History
-  held = each n (record_at before)
+module _ (c : Case) (hs : List History) (d : ℕ) {before after : List ℕ} where
+  pub refused-leaves : solvable (problem_of (slot_case c hs d)) ≡ false → after ≡ over (slot_bytes 11 0 0) before → Leaves (one_slot c hs d) before after hs 0
+  unfolding one_slot
+  refused-leaves e w = rw e (record { trace = w; histories = refl; cost = refl })
 
-  abbrev p : Problem
-  p = slot_problem file demands k n before
-
-  pub slot_columns : Full before → n ≤ 32 → (solvable p ≡ true → length (solve p).outputs ≡ n) → each n (record_at (slot_of file demands k n before).columns) ≡ (one_slot (case_of file) held (get_or demands k 0)).histories
-  unfolding slot_of one_slot
-  slot_columns full few long = by (solvable p) refl
-    where
-      by : (b : Bool) → solvable p ≡ b → each n (record_at (cond {A = SlotEnd} b (record { columns = columns_after before (solve p).outputs n; cost = (solve p).cost }) (record { columns = before; cost = 0 })).columns) ≡ (cond b (solved_slot held (solve p)) (refused_slot held)).histories
-      by true e = after-each before (solve p).outputs n full few (long e)
-      by false e = refl
-
-  pub slot_total : (slot_of file demands k n before).cost ≡ (one_slot (case_of file) held (get_or demands k 0)).total
-  unfolding slot_of one_slot
-  slot_total = by (solvable p)
-    where
-      by : (b : Bool) → (cond {A = SlotEnd} b (record { columns = columns_after before (solve p).outputs n; cost = (solve p).cost }) (record { columns = before; cost = 0 })).cost ≡ (cond b (solved_slot held (solve p)) (refused_slot held)).total
-      by true = refl
-      by false = refl
-
-  pub slot_trace_lem : (trace : List ℕ) → let t = (one_slot (case_of file) held (get_or demands k 0)).trace in slot_trace file demands k n before trace ≡ take (18 * k) trace ++ (t ++ drop (18 * k + 18) trace)
-  unfolding slot_trace
-  slot_trace_lem trace =
-      let t = (one_slot (case_of file) held (get_or demands k 0)).trace in
-      ap (λ (l : List ℕ). take (18 * k) trace ++ (t ++ l)) (ap (λ (m : ℕ). drop m (drop (18 * k) trace)) (slot_long (case_of file) held (get_or demands k 0)) ∙ drop-drop 18 (18 * k) trace)
+  pub solved-leaves : {r : code.Reply} {histories : List History} → Replies (problem_of (slot_case c hs d)) (length hs) r → after ≡ over (slot_bytes 0 r.cost r.gap) before → histories ≡ histories_after hs r.outputs → Leaves (one_slot c hs d) before after histories r.cost
+  unfolding one_slot
+  solved-leaves {r} e w h = rw (e.solvable, ← e.reply) (record { trace = w; histories = h ∙ after-taken hs r.outputs; cost = refl })

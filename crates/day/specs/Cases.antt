@@ -1,5 +1,5 @@
 -- Rule 21.10 of docs/SPECIFICATION.md: days, case by case. Above each row stands the wrong rule that it shows. Each lent byte is 255 and each of 33 lent records is 9 and 9, so that what is untouched shows.
-use Rattle.std.specs.Prelude.{ℕ, ◌+◌, ◌*◌, ◌-◌, List, [], ◌∷◌, ◌++◌, refl, ℤ, pos, length, replicate}
+use Rattle.std.specs.Prelude.{ℕ, ◌+◌, ◌*◌, ◌-◌, List, [], ◌∷◌, ◌++◌, refl, ℤ, pos, length, replicate, Result, Ok, Err}
 use Rattle.rules.specs.Unit.{Unit}
 use Rattle.rules.specs.Layout.{file_of}
 use Rattle.rules.specs.Refusal.{number_of, number_of_verdict}
@@ -8,7 +8,7 @@ use Rattle.rules.specs.Cases as cases
 use Rattle.rules.specs.CaseFiles.{u5, short_head, other_edition, no_unit, demand_above, byte_too_many, no_zone, linear_cost_above, edge_at_least, other_mark, put, with_linear_loss, U, lossy, marked}
 use Rattle.rules.specs.Unit as units
 use Rattle.day.specs.declared.History.{History}
-use Rattle.day.specs.declared.Scheduled.{Scheduled}
+use Rattle.rules.specs.declared.Refusal.{Refusal}
 use Rattle.day.specs.Claims.{joined}
 use Rattle.day.specs.Day.{slot_case, slot_bytes, one_slot, slots_more, day_of, day_verdict, day_ends, scheduled, panel_scheduled}
 
@@ -39,9 +39,9 @@ bytes_lent room = replicate room 255
 abbrev pub records_lent : ℕ → List History
 records_lent n = replicate n (history 9 9)
 
-abbrev pub of_scheduled : Scheduled → List ℕ → List History → Answer
-of_scheduled (Scheduled.Total t) trace histories = plans t trace histories
-of_scheduled (Scheduled.Refused r) trace histories = refuses (number_of r) trace histories
+abbrev pub of_scheduled : Result ℕ Refusal → List ℕ → List History → Answer
+of_scheduled (Ok t) trace histories = plans t trace histories
+of_scheduled (Err r) trace histories = refuses (number_of r) trace histories
 
 -- what the rules give
 unfoldable pub answer : Call → Answer

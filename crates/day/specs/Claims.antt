@@ -1,5 +1,5 @@
 -- Rules 21.6 to 21.8 of docs/SPECIFICATION.md: what holds of every day, as statements. (They are proved in proofs/Claims and proofs/Starts.)
-use Rattle.std.specs.Prelude.{ℕ, suc, ◌+◌, ◌*◌, ◌≤◌, true, false, cond, ◌&&◌, List, [], ◌∷◌, ◌++◌, map, ◌↔◌, ◌≡◌, ltb, eqb, length, get_or, drop}
+use Rattle.std.specs.Prelude.{ℕ, suc, ◌+◌, ◌*◌, ◌≤◌, true, false, cond, ◌&&◌, List, [], ◌∷◌, ◌++◌, map, ◌↔◌, ◌≡◌, ltb, eqb, length, get_or, drop, Err, Ok}
 use Rattle.rules.specs.Lists.{sum, Every}
 use Rattle.rules.specs.Layout.{Case, case_of}
 use Rattle.rules.specs.Refusal.{file_verdict}
@@ -8,9 +8,7 @@ use Rattle.rules.specs.Bisection.{solvable, solve}
 use Rattle.rules.specs.Demands.{demands_invalid}
 use Rattle.rules.specs.Promise.{Permitted, Covering, ReplyPromise}
 use Rattle.rules.specs.declared.Refusal.{Refusal}
-use Rattle.rules.specs.declared.Verdict.{Verdict}
 use Rattle.day.specs.declared.History.{History}
-use Rattle.day.specs.declared.Scheduled.{Scheduled}
 use Rattle.day.specs.Day.{slot_case, slot_bytes, histories_of, one_slot, Slots, day_of, DayResult}
 
 -- ---- the cases of the slots, one by one
@@ -45,7 +43,7 @@ pub record SlotPromise (x : Case) : Type 0 where
   pub refused : (solvable (problem_of x) ≡ false) ↔ ((ps : List ℕ) → Permitted x ps → Covering x ps → ⊥)
 
 abbrev pub EachSlot : Type 0
-EachSlot = (file demands : List ℕ) → file_verdict file ≡ Verdict.Accepted → Every SlotPromise (slot_cases (case_of file) demands)
+EachSlot = (file demands : List ℕ) → file_verdict file ≡ Ok tt → Every SlotPromise (slot_cases (case_of file) demands)
 
 -- ---- (rule 21.8) previous outputs: those of the last solved slot, or the case's own
 
@@ -58,7 +56,7 @@ previous_outputs hs = map (λ h. h.previous) hs
 
 abbrev pub PreviousOfLastSolved : Type 0
 PreviousOfLastSolved =
-    (file demands : List ℕ) → file_verdict file ≡ Verdict.Accepted
+    (file demands : List ℕ) → file_verdict file ≡ Ok tt
     → let c = case_of file in
     previous_outputs (day_of c demands).histories ≡ last_outputs (map (λ u. u.previous) c.units) (slot_cases c demands)
 
@@ -83,7 +81,7 @@ pub record Bounded (c : Case) (demands : List ℕ) : Type 0 where
   pub previous : Every (λ h. h.previous ≤ 10000) (day_of c demands).histories
 
 abbrev pub DayBounded : Type 0
-DayBounded = (file demands : List ℕ) → file_verdict file ≡ Verdict.Accepted → demands_invalid demands ≡ false → Bounded (case_of file) demands
+DayBounded = (file demands : List ℕ) → file_verdict file ≡ Ok tt → demands_invalid demands ≡ false → Bounded (case_of file) demands
 
 -- ---- (rule 21.8) starts: how often a unit goes from 0 to above 0, from its previous output in the case through the outputs of the solved slots
 
@@ -99,7 +97,7 @@ starts_from p (q ∷ qs) = cond (eqb p 0 && ltb 0 q) 1 0 + starts_from q qs
 
 abbrev pub StartsCounted : Type 0
 StartsCounted =
-    (file demands : List ℕ) → file_verdict file ≡ Verdict.Accepted
+    (file demands : List ℕ) → file_verdict file ≡ Ok tt
     → let c = case_of file in
     (i : ℕ)
     → get_or (map (λ h. h.starts) (day_of c demands).histories) i 0 ≡ starts_from (get_or (map (λ u. u.previous) c.units) i 0) (map (λ ps. get_or ps i 0) (solved_outputs (slot_cases c demands)))
@@ -112,7 +110,7 @@ RefusesAsFile call =
     → demands_invalid demands ≡ false
     → 18 * length demands ≤ length trace
     → 32 ≤ length histories
-    → ((call file demands trace histories).answer ≡ Scheduled.Refused r) ↔ (file_verdict file ≡ Verdict.Refused r)
+    → ((call file demands trace histories).answer ≡ Err r) ↔ (file_verdict file ≡ Err r)
 
 -- ---- (rule 21.6) histories behind the units' and bytes of the trace behind the slots' are not touched
 

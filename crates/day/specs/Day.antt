@@ -1,5 +1,5 @@
 -- Section 21 of docs/SPECIFICATION.md: a day, slot by slot. What the call answers and leaves in the trace and in the histories, on every input.
-use Rattle.std.specs.Prelude.{ℕ, ◌+◌, ◌*◌, cond, ◌||◌, ◌&&◌, List, [], ◌∷◌, ◌++◌, map, ltb, eqb, ℤ, pos, length}
+use Rattle.std.specs.Prelude.{ℕ, ◌+◌, ◌*◌, cond, ◌||◌, ◌&&◌, List, [], ◌∷◌, ◌++◌, map, ltb, eqb, ℤ, pos, length, Result, Ok, Err}
 use Rattle.fields.specs.Field.{bytes}
 use Rattle.rules.specs.Lists.{over}
 use Rattle.rules.specs.Unit.{Unit, with_previous}
@@ -8,10 +8,10 @@ use Rattle.rules.specs.Refusal.{number_of, ◌refuses◌, ◌then◌, file_verdi
 use Rattle.rules.specs.Problem.{problem_of}
 use Rattle.rules.specs.Bisection.{Reply, solvable, solve}
 use Rattle.rules.specs.Demands.{demands_invalid}
+use Rattle.rules.specs.declared.Refusal.{Refusal}
 use Rattle.rules.specs.declared.Refusal.TheVariants.{BufferTooShort, NoAllocation, DayDemandsInvalid, DayBuffersTooShort}
-use Rattle.rules.specs.declared.Verdict.{Verdict}
+use Rattle.rules.specs.Refusal.{Verdict}
 use Rattle.day.specs.declared.History.{History}
-use Rattle.day.specs.declared.Scheduled.{Scheduled}
 
 -- ---- a slot is a case (rule 21.2): the file's units, each with the previous output of its history, and the slot's demand
 
@@ -83,28 +83,28 @@ day_verdict file demands room records =
     then file_verdict file
 
 pub record DayResult : Type 0 where
-  pub answer : Scheduled
+  pub answer : Result ℕ Refusal
   pub trace : List ℕ
   pub histories : List History
 
 unfoldable pub day_ends : Verdict → List ℕ → List ℕ → List ℕ → List History → DayResult
-day_ends (Verdict.Refused r) file demands trace histories = record { answer = Scheduled.Refused r; trace = trace; histories = histories }
-day_ends Verdict.Accepted file demands trace histories =
+day_ends (Err r) file demands trace histories = record { answer = Err r; trace = trace; histories = histories }
+day_ends (Ok _) file demands trace histories =
     let s = day_of (case_of file) demands in
-    record { answer = Scheduled.Total s.total; trace = over s.trace trace; histories = over s.histories histories }
+    record { answer = Ok s.total; trace = over s.trace trace; histories = over s.histories histories }
 
 unfoldable pub scheduled : List ℕ → List ℕ → List ℕ → List History → DayResult
 scheduled file demands trace histories = day_ends (day_verdict file demands (length trace) (length histories)) file demands trace histories
 
 -- ---- the call in C (rule 21.9): number and value of each answer. 0 or a refusal's number, and the total in a lent list, which has room for it or is refused with 1
 
-abbrev pub number_of_scheduled : Scheduled → ℕ
-number_of_scheduled (Scheduled.Total t) = 0
-number_of_scheduled (Scheduled.Refused r) = number_of r
+abbrev pub number_of_scheduled : Result ℕ Refusal → ℕ
+number_of_scheduled (Ok t) = 0
+number_of_scheduled (Err r) = number_of r
 
-abbrev pub answers_of_scheduled : Scheduled → List ℤ → List ℤ
-answers_of_scheduled (Scheduled.Total t) answers = over (pos t ∷ []) answers
-answers_of_scheduled (Scheduled.Refused r) answers = answers
+abbrev pub answers_of_scheduled : Result ℕ Refusal → List ℤ → List ℤ
+answers_of_scheduled (Ok t) answers = over (pos t ∷ []) answers
+answers_of_scheduled (Err r) answers = answers
 
 pub record PanelDayResult : Type 0 where
   pub number : ℕ

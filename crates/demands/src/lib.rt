@@ -5,18 +5,12 @@
 ghost use Rattle.std.specs.Prelude.{◌≡◌};
 ghost use Rattle.rules.specs.Demands.{demands_invalid};
 
+const MOST_DEMANDS: usize = 96;
+
+const MOST_STEPS: u32 = 320000;
+
 pub fn demands_invalid(demands: &[u32]) -> bool
     ensures { result ≡ demands_invalid demands.now }
 {
-    if demands.len() > 96 {
-        return true;
-    }
-    let mut i = 0;
-    while i < demands.len() {
-        if demands[i] > 320000 {
-            return true;
-        }
-        i += 1;
-    }
-    false
+    demands.len() > MOST_DEMANDS || demands.iter().any(|demand| *demand > MOST_STEPS)
 }

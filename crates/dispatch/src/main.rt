@@ -1,45 +1,24 @@
 // Reads a case file from standard input and prints its dispatch, or `refused` and the number of the refusal.
 #![tactic(auto)]
 
-ghost use Rattle.std.specs.Prelude.{◌≡◌, ◌≤◌, length};
+ghost use Rattle.std.specs.Prelude.{◌≡◌, ◌≤◌, length, IfOk};
 ghost use Rattle.rules.specs.Lists.{over};
 ghost use Rattle.text.specs.Text.{printed};
 
-use std::io::{Print, Read};
+use std::io::{self, Print, Read};
 
-// How many bytes were read, and whether a read failed.
-#[derive(Clone, Copy)]
-struct Input {
-    length: usize,
-    failed: bool,
-}
-
-// Reads until `file` is full, the input ends or a read fails.
-fn read_input(from: &mut impl Read, file: &mut [u8]) -> Input
-    ensures { result.length ≤ length file.old }
+// Reads until `file` is full or the input ends, and gives how many bytes were read.
+fn read_input(from: &mut impl Read, file: &mut [u8]) -> io::Result<usize>
+    ensures { IfOk result (λ at. at ≤ length file.old) }
 {
     let mut at = 0;
     while at < file.len() {
-        match from.read(&mut file[at..]) {
-            Err(_) => {
-                return Input {
-                    length: at,
-                    failed: true,
-                };
-            }
-            Ok(0) => {
-                return Input {
-                    length: at,
-                    failed: false,
-                };
-            }
-            Ok(n) => at += n,
+        match from.read(&mut file[at..])? {
+            0 => break,
+            n => at += n,
         }
     }
-    Input {
-        length: at,
-        failed: false,
-    }
+    Ok(at)
 }
 
 // Writes the text of the file's answer at the start of `out`, and gives its length.
@@ -52,20 +31,15 @@ fn answer(file: &[u8], out: &mut [u8]) -> usize
     text::write_text(out, answered, &reply)
 }
 
-fn complain(to: &impl Print, message: &[u8]) {
-    let _ = to.write_all(message);
-}
-
 fn main(rt: HostRuntime) {
     let mut file = [0u8; 1609];
-    let Input { length, failed } = read_input(&mut rt.stdin(), &mut file);
-    if failed {
-        complain(&rt.stderr(), b"standard input could not be read\n");
+    let Ok(length) = read_input(&mut rt.stdin(), &mut file) else {
+        let _ = eprintln!(rt; "standard input could not be read");
         return;
-    }
+    };
     let mut out = [0u8; 2048];
     let n = answer(&file[..length], &mut out);
     if rt.write_all(&out[..n]).is_err() {
-        complain(&rt.stderr(), b"the answer could not be written\n");
+        let _ = eprintln!(rt; "the answer could not be written");
     }
 }

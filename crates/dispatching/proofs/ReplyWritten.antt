@@ -10,7 +10,6 @@ use Rattle.fields.proofs.Width.{length-bytes}
 use Rattle.rules.specs.Lists.{over}
 use Rattle.rules.specs.Calls.{reply_bytes}
 use Rattle.rules.proofs.Encoding.Pieces.{length_each_bytes}
-use Rattle.rules.proofs.Encoding.ReplyNumbers.{numbers}
 use Rattle.rules.proofs.Encoding.ReplyBytes.{length-reply}
 use Rattle.rules.proofs.Encoding.Front.{lent, given_back, front-none, front-field, front_tail, front-over}
 use Rattle.solving.specs.ReplyHeld.{reply_held}
@@ -34,11 +33,14 @@ module _ (cost gap surplus : ℕ) (ps : List ℕ) where
 
   -- ---- a reply, over the width of its second number
 
-  pub numbers-written : (w : ℕ) (s₀ : List ℕ) (n second : ℕ) → length ps ≡ n → {s₁ s₂ t : List ℕ} → s₁ ≡ written s₀ 0 2 n → s₂ ≡ written s₁ 2 w second → t ≡ over amounts (lent (2 + w) s₂) → given_back (2 + w) s₂ t ≡ over (numbers w second cost gap surplus ps) s₀
-  numbers-written w s₀ n second count {t = t} h₁ h₂ h =
+  abbrev pub spelled : (w n second : ℕ) → List ℕ
+  spelled w n second = bytes 2 n ++ bytes w second ++ bytes 8 cost ++ bytes 8 gap ++ bytes 8 surplus ++ bytes_of_each 2 ps
+
+  pub numbers-written : (w : ℕ) (s₀ : List ℕ) (n second : ℕ) → {s₁ s₂ t : List ℕ} → s₁ ≡ written s₀ 0 2 n → s₂ ≡ written s₁ 2 w second → t ≡ over amounts (lent (2 + w) s₂) → given_back (2 + w) s₂ t ≡ over (spelled w n second) s₀
+  numbers-written w s₀ n second {t = t} h₁ h₂ h =
       let f₁ = front-field (front-none s₀) 2 n h₁ in
       let f₂ = front-field f₁ w second h₂ in
-      let same : (bytes 2 n ++ bytes w second) ++ amounts ≡ numbers w second cost gap surplus ps = rw count (simp append_assoc) in
+      let same : (bytes 2 n ++ bytes w second) ++ amounts ≡ spelled w n second = simp append_assoc in
       front-over (front_tail f₂ t amounts (24 + 2 * length ps) length-amounts h) ∙ ap (λ (xs : List ℕ). over xs s₀) same
 
 -- ---- dispatch's reply
@@ -53,6 +55,6 @@ module _ (s₀ : List ℕ) (n : ℕ) (r : code.Reply) (few : n ≤ length r.outp
   pub reply-length : length (reply_bytes (reply_held n r)) ≡ 28 + 2 * n
   reply-length = length-reply (reply_held n r) ∙ ap (λ (k : ℕ). 28 + 2 * k) count
 
-  pub reply-written : {s₁ s₂ t : List ℕ} → s₁ ≡ written s₀ 0 2 n → s₂ ≡ written s₁ 2 2 r.evaluations → t ≡ over (amounts r.cost r.gap r.surplus outputs) (lent 4 s₂) → given_back 4 s₂ t ≡ over (reply_bytes (reply_held n r)) s₀
+  pub reply-written : {s : List ℕ} → s ≡ over (spelled r.cost r.gap r.surplus outputs 2 n r.evaluations) s₀ → s ≡ over (reply_bytes (reply_held n r)) s₀
   unfolding reply_bytes
-  reply-written = numbers-written r.cost r.gap r.surplus outputs 2 s₀ n r.evaluations count
+  reply-written e = rw count e

@@ -1,5 +1,5 @@
 -- A loop that gives the units their outputs one by one: what stands so far, with what is still to come, is the whole. Of any output that is picked of an offer, so of the choices, of the least tied and of the greatest outputs.
-use mathlib.Core.Bool.{Bool, true, false, cond}
+use mathlib.Core.Bool.{Bool, true, false}
 use mathlib.Core.Path.{◌≡◌, refl, sym, ap, ap₂, ◌∙◌, subst}
 use mathlib.Core.List.{List, [], ◌∷◌, ◌++◌, map, append_assoc, append-nil}
 use Prim.Native.Nat.{ℕ, ◌+◌, ◌≤◌, ◌<◌}
@@ -7,6 +7,7 @@ use native.Mathlib.Numerals.{add-one}
 use native.Mathlib.Omega.{arith}
 use lib.ListN.{length, get_or, take, drop, set, length-set, drop_of_length-le}
 use lib.Seq.{drop-cons, take-suc-set}
+use mir.Val.{bool_byte}
 use Rattle.rules.specs.Unit.{Unit, cost, net}
 use Rattle.rules.specs.Problem.{total_cost, total_net, Offer, Problem, units_of}
 use Rattle.rules.proofs.Economics.Quantities.{cost-range, net-range}
@@ -75,9 +76,6 @@ module _ (pick : Offer → ℕ) where
     pub held : (q : Problem) → HoldsProblem coefficients ends ranges n q → Placed q outputs c w i
 
   module _ {coefficients ends ranges : List ℕ} {n : ℕ} (g : SiteHeld coefficients ends ranges n) where
-    pub allocating_starts : {outputs : List ℕ} → n ≤ length outputs → Allocating coefficients ends ranges n outputs 0 0 0
-    allocating_starts room = record { within = omega arith; room = room; sized = record { cost = omega arith; net = omega arith }; held = λ q h. record { places = refl; cost = omega arith; net = omega arith } }
-
     module _ {outputs : List ℕ} {c w i : ℕ} (s : Allocating coefficients ends ranges n outputs c w i) where
       -- unit i of that problem
       pub offered : i < n → HoldsOffer coefficients ends ranges i (get_or g.problem.offers i no_offer)
@@ -107,9 +105,6 @@ module _ (pick : Offer → ℕ) where
     pub held : (q : Problem) → HoldsProblem coefficients ends ranges n q → Filled q array i
 
   module _ {coefficients ends ranges : List ℕ} {n : ℕ} {array : List ℕ} where
-    pub filling_starts : n ≤ length array → Filling coefficients ends ranges n array 0
-    filling_starts room = record { room = room; held = λ q h. refl }
-
     pub filling_more : {i r : ℕ} → Filling coefficients ends ranges n array i → i < n → ((q : Problem) → HoldsProblem coefficients ends ranges n q → r ≡ pick (get_or q.offers i no_offer)) → Filling coefficients ends ranges n (set array i r) (i + 1)
     filling_more {i} {r} s l e = record { room = rw (length-set array i r) s.room; held = λ q h. filled_more q array i r (s.held q h) (omega (arith, s.room)) (omega (arith, h.count)) (e q h) }
 
@@ -121,10 +116,7 @@ pub record Ties (outputs least : List ℕ) (ties i : ℕ) : Type 0 where
   pub small : ties ≤ i
   pub alone : ties ≡ 0 → take i least ≡ take i outputs
 
-pub ties-start : (outputs least : List ℕ) → Ties outputs least 0 0
-ties-start outputs least = record { small = omega arith; alone = λ _. refl }
-
-pub ties-more : {outputs least : List ℕ} {ties i p l : ℕ} → Ties outputs least ties i → i < length outputs → i < length least → (tied : Bool) → (tied ≡ false → l ≡ p) → Ties (set outputs i p) (set least i l) (ties + cond tied 1 0) (i + 1)
+pub ties-more : {outputs least : List ℕ} {ties i p l : ℕ} → Ties outputs least ties i → i < length outputs → i < length least → (tied : Bool) → (tied ≡ false → l ≡ p) → Ties (set outputs i p) (set least i l) (ties + bool_byte tied) (i + 1)
 ties-more s h k true same = record { small = omega (arith, s.small); alone = λ e. absurd (omega arith) }
 ties-more {outputs} {least} {ties} {i} {p} {l} s h k false same =
     record {

@@ -1,5 +1,6 @@
 -- Step 1 on the arrays: every unit of a problem that they hold has an output, so that it is solvable exactly if the greatest outputs cover; and so of the file that they were decoded from. And what pricing answers, case by case.
-use mathlib.Core.Path.{◌≡◌, refl, ap₂, subst}
+use Rattle.std.specs.Prelude.{Err, Ok, Result}
+use mathlib.Core.Path.{◌≡◌, refl, ap₂}
 use mathlib.Core.Bool.{Bool, true, false}
 use mathlib.Core.List.{List}
 use Prim.Native.Nat.{ℕ, ◌+◌, ◌*◌, ◌≤◌, ◌<◌}
@@ -15,7 +16,6 @@ use Rattle.rules.specs.Bisection.{greatest_outputs, solvable}
 use Rattle.rules.specs.Calls.{case_verdict, price_verdict, price_ends, priced}
 use Rattle.rules.specs.declared.Refusal.{Refusal}
 use Rattle.rules.specs.declared.Refusal.TheVariants.{NoAllocation, MultiplierOutOfRange}
-use Rattle.rules.specs.declared.Verdict.TheVariants.{Refused}
 use Rattle.rules.specs.declared.Priced.{Priced}
 use Rattle.rules.proofs.Lists.{every-from, all-every}
 use Rattle.fields.specs.Integers.{Is}
@@ -24,7 +24,6 @@ use Rattle.site.specs.Site.{no_offer, HoldsOffer, HoldsProblem}
 use Rattle.site.specs.Clauses.{Site}
 use Rattle.evaluation.specs.declared.Sums as code
 use Rattle.evaluation.specs.Clauses.{Allocates, Dualable, StepOne, First, FindsFirst}
-use Rattle.evaluation.specs.declared.FirstBest.{FirstBest}
 use Rattle.choice.proofs.Regions.{lowest}
 use Rattle.evaluation.proofs.Offers.{dual-held}
 
@@ -44,35 +43,30 @@ module _ {coefficients ends ranges : List ℕ} {n t : ℕ} {outputs : List ℕ} 
   unfolding solvable greatest_outputs
   solved q h d b e = rw (every_some h, ← d, ← (a.held q h).net) e
 
-  pub uncovered : w < t → StepOne coefficients ends ranges n t outputs (FirstBest.Refused NoAllocation)
+  pub uncovered : w < t → StepOne coefficients ends ranges n t outputs (Err NoAllocation)
   uncovered k = record { refusal = refl; unsolved = λ q h d. solved q h d false (lt-leb t w k) }
 
-  pub covered : t ≤ w → StepOne coefficients ends ranges n t outputs (FirstBest.Found n t c w)
-  covered k = record { count = refl; demanded = refl; allocates = a; solves = λ q h d. solved q h d true (le-leb t w k) }
+  pub covered : t ≤ w → StepOne coefficients ends ranges n t outputs (Ok (record { cost = c; net = w }))
+  covered k = record { allocates = a; solves = λ q h d. solved q h d true (le-leb t w k) }
 
 -- step 1 of the file whose problem the arrays hold
-pub of_file : {file coefficients ends ranges : List ℕ} {n t : ℕ} (s : Site file coefficients ends ranges n t) (outputs : List ℕ) (r : FirstBest) → StepOne coefficients ends ranges n t outputs r → FindsFirst file coefficients ends ranges outputs r
+pub of_file : {file coefficients ends ranges : List ℕ} {n t : ℕ} (s : Site file coefficients ends ranges n t) (outputs : List ℕ) (r : Result code.Sums Refusal) → StepOne coefficients ends ranges n t outputs r → FindsFirst file coefficients ends ranges n t outputs r
 unfolding case_verdict
-of_file {file} s outputs (FirstBest.Found n' t' c w) k = rw (k.count, k.demanded) (record { accepted = rw (s.accepted, k.solves (problem_in file) s.holds s.demanded); site = s; allocates = k.allocates })
-of_file {file} s outputs (FirstBest.Refused r) k = rw (k.refusal, s.accepted, k.unsolved (problem_in file) s.holds s.demanded)
-
--- as the match of an entry tells it
-module _ (file coefficients ends ranges outputs : List ℕ) {r : FirstBest} where
-  pub first_found : {n t c w : ℕ} → r ≡ FirstBest.Found n t c w → FindsFirst file coefficients ends ranges outputs r → First file coefficients ends ranges outputs n t c w
-  first_found e k = subst (FindsFirst file coefficients ends ranges outputs) e k
-
-  pub first-refused : {x : Refusal} → r ≡ FirstBest.Refused x → FindsFirst file coefficients ends ranges outputs r → case_verdict file ≡ Refused x
-  first-refused e k = subst (FindsFirst file coefficients ends ranges outputs) e k
+of_file {file} s outputs (Ok f) k = record { accepted = rw (s.accepted, k.solves (problem_in file) s.holds s.demanded); site = s; allocates = k.allocates }
+of_file {file} s outputs (Err r) k = rw (k.refusal, s.accepted, k.unsolved (problem_in file) s.holds s.demanded)
 
 -- ---- what pricing answers
 
+abbrev paid : ℤ → Bool → Result Priced Refusal
+paid dual covers = Ok (record { dual = dual; covers = covers })
+
 module _ (file : List ℕ) {m : ℕ} where
-  pub multiplier-refused : 65536 < m → Priced.Refused MultiplierOutOfRange ≡ priced file m
+  pub multiplier_refused : 65536 < m → Err MultiplierOutOfRange ≡ priced file m
   unfolding priced price_verdict price_ends
-  multiplier-refused h = rw (lt-ltb 65536 m h)
+  multiplier_refused h = rw (lt-ltb 65536 m h)
 
   module _ (h : m ≤ 65536) where
-    pub case-refused : {r : Refusal} → case_verdict file ≡ Refused r → Priced.Refused r ≡ priced file m
+    pub case-refused : {r : Refusal} → case_verdict file ≡ Err r → Err r ≡ priced file m
     unfolding priced price_verdict price_ends
     case-refused e = rw (le-ltb 65536 m h, e)
 
@@ -87,9 +81,9 @@ module _ (file : List ℕ) {m : ℕ} where
             multiplier = h;
           }
 
-      pub valued : {outputs : List ℕ} {s : code.Sums} {d : ℤ} → Allocates (choice m) coefficients ends ranges n outputs s → Is d (100000 * s.cost + m * t) (m * s.net) → Priced.Valued d (leb t s.net) ≡ priced file m
+      pub valued : {outputs : List ℕ} {s : code.Sums} {d : ℤ} → Allocates (choice m) coefficients ends ranges n outputs s → Is d (100000 * s.cost + m * t) (m * s.net) → Ok (record { dual = d; covers = leb t s.net }) ≡ priced file m
       unfolding priced price_verdict price_ends choices
       valued {outputs} {s} {d} a k =
           let q = problem_in file in
           let o = a.held q f.site.holds in
-          rw (le-ltb 65536 m h, f.accepted) (ap₂ Priced.Valued (dual-held t m a k q f.site.holds f.site.demanded) (ap₂ leb f.site.demanded o.net))
+          rw (le-ltb 65536 m h, f.accepted) (ap₂ paid (dual-held t m a k q f.site.holds f.site.demanded) (ap₂ leb f.site.demanded o.net))

@@ -2,7 +2,7 @@
 use mathlib.Core.Path.{◌≡◌, refl, ap}
 use mathlib.Core.List.{List, [], ◌∷◌}
 use mathlib.Core.Logic.{inl, inr}
-use Prim.Native.Nat.{ℕ, ◌+◌, ◌*◌, ◌≤◌, ◌<◌}
+use Prim.Native.Nat.{ℕ, ◌+◌, ◌*◌, ◌≤◌}
 use native.Mathlib.Omega.{arith}
 use lib.IntN.{ℤ}
 use Rattle.rules.specs.Lists.{greatest, Every}
@@ -17,8 +17,7 @@ use Rattle.rules.proofs.Economics.Allocations.{dual-is, at_most_greatest}
 use Rattle.regions.specs.Regions.{low, high}
 use Rattle.site.specs.Site.{first, last, Within, no_offer, HoldsOffer, HoldsProblem}
 use Rattle.curve.specs.declared.Curve as code
-use Rattle.curve.specs.Curve.{priced_at, IsCurve, InRange}
-use Rattle.choice.specs.Clauses.{Choosable}
+use Rattle.curve.specs.Curve.{priced_at, IsCurve}
 use Rattle.evaluation.specs.declared.Sums as code-sums
 use Rattle.evaluation.specs.Clauses.{Allocates}
 use Rattle.curve.proofs.Heights.{priced-curve}
@@ -29,13 +28,13 @@ greatest_at_most x [] h = omega arith
 greatest_at_most x (q ∷ qs) h = omega (arith, h q (inl refl), greatest_at_most x qs (λ p i. h p (inr i)))
 
 module _ {coefficients ends ranges : List ℕ} {i : ℕ} {o : Offer} (h : HoldsOffer coefficients ends ranges i o) where
-  pub choosable : i < 32 → {c : code.Curve} → InRange c → Choosable ends (first ranges i) (last ranges i) c
-  choosable l c = record { few = omega (arith, h.to); regions = h.regions; curve = c }
-
   pub choice-held : {r l : ℕ} {m : ℕ} {c : code.Curve} → IsCurve m o.unit c → Chosen (priced_at c) (Within ends (first ranges i) (last ranges i)) r l → (r ≡ choice m o) × (l ≡ least_tied m o)
   choice-held {r} {l} {m} {c} k d =
       let of-list : Chosen (priced_cost m o.unit) (λ p. Among p o.outputs) r l = alike (λ p w. (h.outputs p).1 w) (λ p a. (h.outputs p).0 a) (agreed (λ p w. priced-curve h.unit.sound k p (small h.regions p w)) d) in
       unique of-list (scanned (priced_cost m o.unit) o.outputs h.proper.ascends (some-among r o.outputs of-list.candidate))
+
+  pub choice-small : {f : ℕ → ℤ} {r l : ℕ} → Chosen f (Within ends (first ranges i) (last ranges i)) r l → r ≤ 10000
+  choice-small {r = r} d = small h.regions r d.candidate
 
   pub offer-available : Available o
   offer-available = record { proper = h.proper; some = some-among (low ends (first ranges i)) o.outputs ((h.outputs (low ends (first ranges i))).1 (lowest h.regions)) }

@@ -1,11 +1,10 @@
 // All units of a decoded site (crate `site`) together: their choices (crate `choice`) with the sums, the dual value and its floor; and
-// step 1, on the arrays and from a file's bytes. Each number is in range on 64 bits and equal to what crate `rules` defines.
+// step 1, on a decoded site and from a file's bytes. Each number is in range on 64 bits and equal to what crate `rules` defines.
 #![tactic(auto)]
 
 mod step_one;
 mod totals;
 
-use rules::Refusal;
 pub use step_one::{first_best, step1};
 pub use totals::{dual_of, evaluate, floor_of};
 
@@ -23,17 +22,4 @@ pub struct Evaluated {
     pub cost: u64,
     pub net: u64,
     pub ties: u64,
-}
-
-// What checking, decoding and step 1 give besides the arrays: the number of units, the net that covers the demand, and the cost
-// and net of the greatest outputs, the first best.
-#[derive(Clone, Copy)]
-pub enum FirstBest {
-    Found {
-        count: usize,
-        target: u64,
-        cost: u64,
-        net: u64,
-    },
-    Refused(Refusal),
 }

@@ -6,6 +6,8 @@ use native.Mathlib.Omega.{arith}
 use mathlib.Core.Path.{◌≡◌, refl, ap, ◌∙◌}
 use mathlib.Core.List.{List, [], ◌∷◌}
 use lib.IntN.{ℤ, pos, negsuc, sub_ℕ}
+use mir.Syntax.{w32}
+use mir.Val.{to_z, of_z}
 use lib.ListN.{length, take, drop, length-drop}
 use lib.Seq.{length-take-le}
 use borrow.Author.Tests.{lt-ltb, le-ltb}
@@ -70,13 +72,15 @@ field_fits s at w h b =
 pub written_read_signed : (s : List ℕ) (at w : ℕ) → at + w ≤ length s → Bytes s → written s at w (unsigned w (signed_field s at w)) ≡ s
 written_read_signed s at w h b = ap (written s at w) (unsigned_signed w (field s at w) (field_fits s at w h b)) ∙ written_read s at w h b
 
--- the number that stands for a signed one, by its sign
-pub unsigned-lower : (w : ℕ) (z : ℤ) → negative_part z ≡ 0 → unsigned w z ≡ positive_part z
-unfolding unsigned positive_part negative_part
-unsigned-lower w (pos n) h = refl
-unsigned-lower w (negsuc n) h = absurd (omega arith)
+-- what `cast_signed` and `cast_unsigned` of 32 bits give
+pub signed_32 : (n : ℕ) → n < 4294967296 → to_z w32 n ≡ signed 4 n
+signed_32 n h = by (dec_lt n 2147483648)
+  where
+    by : Dec (n < 2147483648) → to_z w32 n ≡ signed 4 n
+    by (yes k) = rw (lt-ltb n 2147483648 k, signed_lower 4 n (omega arith))
+    by (no k) = rw (le-ltb n 2147483648 (omega arith), signed-upper 4 n (omega arith), lt-ltb n 4294967296 h)
 
-pub unsigned-upper : (w : ℕ) (z : ℤ) → 0 < negative_part z → unsigned w z ≡ 256 ^ w - negative_part z
-unfolding unsigned positive_part negative_part
-unsigned-upper w (pos n) h = absurd (omega arith)
-unsigned-upper w (negsuc n) h = refl
+pub unsigned_32 : (z : ℤ) → of_z w32 z ≡ unsigned 4 z
+unfolding unsigned
+unsigned_32 (pos n) = refl
+unsigned_32 (negsuc n) = refl

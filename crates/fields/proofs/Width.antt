@@ -6,7 +6,7 @@ use native.Mathlib.Decide.{dec_lt}
 use native.Mathlib.Omega.{arith}
 use mathlib.Core.Path.{◌≡◌, refl, ap, sym, ◌∙◌}
 use mathlib.Core.List.{List, [], ◌∷◌, ◌++◌, append_assoc}
-use lib.ListN.{length, take, drop, get_or, set, length-append, length-take, length-drop, length-set, take-append-drop, get_or-eq_default}
+use lib.ListN.{length, take, drop, get_or, set, length-append, length-take, length-drop, take-append-drop, get_or-eq_default, drop_of_length-le}
 use lib.Seq.{drop-cons, take-set-le, set_split, drop_at, take_at, length-take-le, take-suc, take_all, get_or-take, get_or-drop, drop-drop}
 use Rattle.fields.specs.Field.{Bytes, number_after, number, field, bytes, written}
 
@@ -70,76 +70,54 @@ written_read s at w h k =
 
 -- ---- the two loops: one byte more is read, one byte more is written
 
-more-read : (n : ℕ) (s : List ℕ) (at k : ℕ) → at < length s → number_after n (take (suc k) (drop at s)) ≡ number_after (n * 256 + get_or s at 0) (take k (drop (suc at) s))
-unfolding number_after
-more-read n s at k h = rw (drop-cons s at 0 h)
+-- what is read so far of xs: its first i bytes spell n, and the others behind n spell what xs does
+pub record Reading (xs : List ℕ) (n i : ℕ) : Type 0 where
+  pub small : n < 256 ^ i
+  pub spelled : number_after n (drop i xs) ≡ number xs
 
-more-written : (s : List ℕ) (at j n : ℕ) → at + suc j ≤ length s → written (set s (at + j) (n % 256)) at j (n / 256) ≡ written s at (suc j) n
+-- a number of k bytes fits w
+pub fits : {n k : ℕ} (w : ℕ) → n < 256 ^ k → k ≤ w → n < 256 ^ w
+fits w h j = lt_of_lt_of_le h (pow-le-pow_right {n = 256} (omega arith) j)
+
+pub reading_more : (xs : List ℕ) (n i b : ℕ) → Reading xs n i → i < length xs → b ≡ get_or xs i 0 → b < 256 → Reading xs (n * 256 + b) (i + 1)
+unfolding number_after
+reading_more xs n i b p h is byte =
+    let e : i + 1 ≡ suc i = omega arith in
+    let spelled : number_after (n * 256 + get_or xs i 0) (drop (suc i) xs) ≡ number xs = rw (drop-cons xs i 0 h) at p.spelled in
+    let small : n * 256 + b < 256 ^ suc i = rw pow-suc (omega (arith, p.small)) in
+    record { small = rw e small; spelled = rw (e, is) spelled }
+
+-- seven bytes at most were read before another is, so that the number still fits
+pub reading_small : (xs : List ℕ) (n i : ℕ) → Reading xs n i → length xs ≤ 8 → i < length xs → n < 256 ^ 7
+reading_small xs n i p h k = fits 7 p.small (omega arith)
+
+pub reading_ends : (s : List ℕ) (at w n i : ℕ) → Reading (take (at + w - at) (drop at s)) n i → at + w ≤ length s → length (take (at + w - at) (drop at s)) ≤ i → i ≤ length (take (at + w - at) (drop at s)) → (n ≡ field s at w) × (n < 256 ^ w)
+unfolding number_after
+reading_ends s at w n i p h j k =
+    let e : at + w - at ≡ w = omega arith in
+    let long : length (take w (drop at s)) ≡ w = simp (length-take, length-drop) (omega arith) in
+    let f : i ≡ w = omega (arith, rw e at j, rw e at k) in
+    let none : drop w (take w (drop at s)) ≡ [] = drop_of_length-le (take w (drop at s)) (omega arith) in
+    let r : Reading (take w (drop at s)) n i = rw e at p in
+    (rw (f, none) at r.spelled, rw f at r.small)
+
+-- what is still to be written: the last of the bytes that are left comes first, and with none left there is nothing
+last-written : (s : List ℕ) (at j n : ℕ) → at + suc j ≤ length s → written (set s (at + j) (n % 256)) at j (n / 256) ≡ written s at (suc j) n
 unfolding bytes
-more-written s at j n h =
+last-written s at j n h =
     let p : take at (set s (at + j) (n % 256)) ≡ take at s = take-set-le at s (at + j) (n % 256) (omega arith) in
     let q : drop (at + j) (set s (at + j) (n % 256)) ≡ n % 256 ∷ drop (suc (at + j)) s =
     rw (set_split s (at + j) (n % 256) (omega arith)) (drop_at (take (at + j) s) (n % 256 ∷ drop (suc (at + j)) s) (at + j) (length-take-le (at + j) s (omega arith))) in
     let e : at + suc j ≡ suc (at + j) = omega arith in
     rw (p, q, e, append_assoc)
 
--- what is read so far: all but the last `left` bytes spell n
-pub record Reading (s : List ℕ) (at w n left : ℕ) : Type 0 where
-  pub within : left ≤ w
-  pub small : n < 256 ^ (w - left)
-  pub spelled : number_after n (take left (drop (at + w - left) s)) ≡ field s at w
-
-pub reading-starts : (s : List ℕ) (at w : ℕ) → Reading s at w 0 w
-reading-starts s at w =
-    let e : at + w - w ≡ at = omega arith in
-    let f : w - w ≡ 0 = omega arith in
-    record { within = omega arith; small = rw f (omega arith); spelled = rw e }
-
--- a number of k bytes fits w
-pub fits : {n k : ℕ} (w : ℕ) → n < 256 ^ k → k ≤ w → n < 256 ^ w
-fits w h j = lt_of_lt_of_le h (pow-le-pow_right {n = 256} (omega arith) j)
-
-pub reading-more : (s : List ℕ) (at w n left b : ℕ) → Reading s at w n left → 0 < left → at + w ≤ length s → b ≡ get_or s (at + w - left) 0 → b < 256 → Reading s at w (n * 256 + b) (left - 1)
-reading-more s at w n left b p h k is small =
-    let i = at + w - left in
-    let e : suc (left - 1) ≡ left = omega (arith, p.within) in
-    let f : at + w - (left - 1) ≡ suc i = omega (arith, p.within) in
-    let l : w - (left - 1) ≡ suc (w - left) = omega (arith, p.within) in
-    let g : number_after n (take (suc (left - 1)) (drop i s)) ≡ field s at w = rw e p.spelled in
-    let larger : n * 256 + b < 256 ^ suc (w - left) = rw pow-suc (omega (arith, p.small)) in
-    record {
-      within = omega (arith, p.within);
-      small = rw l larger;
-      spelled = rw (f, is) (sym (more-read n s i (left - 1) (omega (arith, p.within))) ∙ g);
-    }
-
-pub reading-ends : (s : List ℕ) (at w n left : ℕ) → Reading s at w n left → left ≤ 0 → (n ≡ field s at w) × (n < 256 ^ w)
-unfolding number_after
-reading-ends s at w n left p h =
-    let e : left ≡ 0 = omega arith in
-    let f : w - left ≡ w = omega arith in
-    (rw e at p.spelled, rw f at p.small)
-
--- what is written so far: all but the first `left` bytes
-pub record Writing (s₀ : List ℕ) (at w n : ℕ) (s : List ℕ) (rest left : ℕ) : Type 0 where
-  pub within : left ≤ w
-  pub as_long : length s ≡ length s₀
-  pub spelled : written s at left rest ≡ written s₀ at w n
-
-pub writing_more : (s₀ : List ℕ) (at w n : ℕ) (s : List ℕ) (rest left : ℕ) → Writing s₀ at w n s rest left → 0 < left → at + w ≤ length s₀ → Writing s₀ at w n (set s (at + left - 1) (rest % 256)) (rest / 256) (left - 1)
-writing_more s₀ at w n s rest left p h k =
+pub writing_last : (s : List ℕ) (at left n : ℕ) → 0 < left → at + left ≤ length s → written (set s (at + (left - 1)) (n % 256)) at (left - 1) (n / 256) ≡ written s at left n
+writing_last s at left n h k =
     let e : suc (left - 1) ≡ left = omega arith in
-    let f : at + left - 1 ≡ at + (left - 1) = omega arith in
-    let g : written s at (suc (left - 1)) rest ≡ written s₀ at w n = rw e p.spelled in
-    record {
-      within = omega (arith, p.within);
-      as_long = length-set s (at + left - 1) (rest % 256) ∙ p.as_long;
-      spelled = rw f (more-written s at (left - 1) rest (omega (arith, p.within, p.as_long)) ∙ g);
-    }
+    rw e at (last-written s at (left - 1) n (omega arith))
 
-pub writing_ends : (s₀ : List ℕ) (at w n : ℕ) (s : List ℕ) (rest left : ℕ) → Writing s₀ at w n s rest left → left ≤ 0 → s ≡ written s₀ at w n
+pub writing_none : (s : List ℕ) (at left n : ℕ) → left ≤ 0 → written s at left n ≡ s
 unfolding bytes
-writing_ends s₀ at w n s rest left p h =
+writing_none s at left n h =
     let e : left ≡ 0 = omega arith in
-    let g : written s at 0 rest ≡ written s₀ at w n = rw e at p.spelled in
-    sym (rw add-zero (take-append-drop at s)) ∙ g
+    rw (e, add-zero) (take-append-drop at s)

@@ -1,103 +1,153 @@
-// Big-endian numbers of 16, 32 and 64 bits in byte slices. One loop reads and one loop writes a number of any width up to
-// eight bytes; the functions at a width are calls of them. A signed number is in two's complement.
+// Big-endian numbers in byte slices. One loop reads and one loop writes a number of any width up to eight bytes; `read` and
+// `write` are calls of them at the width of a number type. A signed number is in two's complement.
 #![tactic(auto)]
 
-ghost use Rattle.std.specs.Prelude.{◌≡◌, ◌+◌, ◌≤◌, ◌<◌, ◌^◌, length};
-ghost use Rattle.fields.specs.Field.{field, unsigned, signed_field, written};
+ghost use Rattle.std.specs.Prelude.{◌≡◌, ℕ, ◌+◌, ◌≤◌, ◌<◌, ◌^◌, length};
+ghost use Rattle.std.proofs.Common.{rules};
+ghost use Rattle.fields.specs.Field.{field, unsigned, signed, written};
 
-fn wide(byte: u8) -> u64
-    ensures { (result ≡ byte) × (result < 256) }
-{
-    byte as u64
+// A type of numbers that a field of `WIDTH` bytes holds, each as the number that stands for it.
+pub trait Number: Copy {
+    ghost WIDTH: { ℕ };
+
+    ghost from_field: { ℕ → Self };
+
+    ghost into_field: { Self → ℕ };
+
+    const WIDTH: usize;
+
+    // The number that `n` stands for.
+    fn from_field(n: u64) -> Self
+        requires { n < 256 ^ WIDTH }
+        ensures { result ≡ from_field n };
+
+    // The number that stands for it.
+    fn into_field(self) -> u64
+        ensures { result ≡ into_field self };
+
+    ghost at_most_eight: { WIDTH ≤ 8 };
+}
+
+impl Number for u16 {
+    ghost WIDTH = { 2 };
+
+    ghost from_field = { λ n. n };
+
+    ghost into_field = { λ n. n };
+
+    ghost at_most_eight = { Prim.search rules };
+
+    const WIDTH: usize = 2;
+
+    fn from_field(n: u64) -> u16 {
+        n as u16
+    }
+
+    fn into_field(self) -> u64 {
+        u64::from(self)
+    }
+}
+
+impl Number for u32 {
+    ghost WIDTH = { 4 };
+
+    ghost from_field = { λ n. n };
+
+    ghost into_field = { λ n. n };
+
+    ghost at_most_eight = { Prim.search rules };
+
+    const WIDTH: usize = 4;
+
+    fn from_field(n: u64) -> u32 {
+        n as u32
+    }
+
+    fn into_field(self) -> u64 {
+        u64::from(self)
+    }
+}
+
+impl Number for u64 {
+    ghost WIDTH = { 8 };
+
+    ghost from_field = { λ n. n };
+
+    ghost into_field = { λ n. n };
+
+    ghost at_most_eight = { Prim.search rules };
+
+    const WIDTH: usize = 8;
+
+    fn from_field(n: u64) -> u64 {
+        n
+    }
+
+    fn into_field(self) -> u64 {
+        self
+    }
+}
+
+impl Number for i32 {
+    ghost WIDTH = { 4 };
+
+    ghost from_field = { signed 4 };
+
+    ghost into_field = { unsigned 4 };
+
+    ghost at_most_eight = { Prim.search rules };
+
+    const WIDTH: usize = 4;
+
+    #[tactic(auto, using(crate::proofs::Signed::signed_32))]
+    fn from_field(n: u64) -> i32 {
+        (n as u32).cast_signed()
+    }
+
+    #[tactic(auto, using(crate::proofs::Signed::unsigned_32))]
+    fn into_field(self) -> u64 {
+        u64::from(self.cast_unsigned())
+    }
 }
 
 // The number in the `width` bytes of `s` from `at` on. It goes from the first byte to the last.
+#[tactic(auto, using(crate::proofs::Width::reading_small, crate::proofs::Width::reading_ends))]
 pub fn read_number(s: &[u8], at: usize, width: usize) -> u64
     requires { (width ≤ 8) × (at + width ≤ length s.now) }
     ensures { (result ≡ field s.now at width) × (result < 256 ^ width) }
 {
     let mut n: u64 = 0;
-    let mut left = width;
-    while 0 < left {
-        n = n * 256 + wide(s[at + width - left]);
-        left -= 1;
+    for byte in &s[at..at + width] {
+        n = n * 256 + u64::from(*byte);
     }
     n
 }
 
 // Writes the low `width` bytes of `n` into `s` from `at` on. It goes from the last byte to the first.
+#[tactic(auto, using(crate::proofs::Width::writing_last, crate::proofs::Width::writing_none))]
 pub fn write_number(s: &mut [u8], at: usize, width: usize, n: u64)
     requires { (width ≤ 8) × (at + width ≤ length s.old) }
     ensures { s.new ≡ written s.old at width n }
 {
     let mut rest = n;
-    let mut left = width;
-    while 0 < left {
-        s[at + left - 1] = (rest % 256) as u8;
-        rest = rest / 256;
-        left -= 1;
+    for i in (0..width).rev() {
+        s[at + i] = (rest % 256) as u8;
+        rest /= 256;
     }
 }
 
-pub fn read_u16(s: &[u8], at: usize) -> u16
-    requires { at + 2 ≤ length s.now }
-    ensures { result ≡ field s.now at 2 }
+// The number in the bytes of `s` from `at` on, as many as its type has.
+pub fn read<T: Number>(s: &[u8], at: usize) -> T
+    requires { at + T.WIDTH ≤ length s.now }
+    ensures { result ≡ T.from_field (field s.now at T.WIDTH) }
 {
-    read_number(s, at, 2) as u16
+    T::from_field(read_number(s, at, T::WIDTH))
 }
 
-pub fn read_u32(s: &[u8], at: usize) -> u32
-    requires { at + 4 ≤ length s.now }
-    ensures { result ≡ field s.now at 4 }
+// Writes `n` into the bytes of `s` from `at` on, as many as its type has.
+pub fn write<T: Number>(s: &mut [u8], at: usize, n: T)
+    requires { at + T.WIDTH ≤ length s.old }
+    ensures { s.new ≡ written s.old at T.WIDTH (T.into_field n) }
 {
-    read_number(s, at, 4) as u32
-}
-
-pub fn read_u64(s: &[u8], at: usize) -> u64
-    requires { at + 8 ≤ length s.now }
-    ensures { result ≡ field s.now at 8 }
-{
-    read_number(s, at, 8)
-}
-
-pub fn read_i32(s: &[u8], at: usize) -> i32
-    requires { at + 4 ≤ length s.now }
-    ensures { result ≡ signed_field s.now at 4 }
-{
-    let n = read_number(s, at, 4);
-    if n < 2147483648 {
-        return n as i32;
-    }
-    (n as i64 - 4294967296) as i32
-}
-
-// The number of four bytes that stands for a signed one.
-pub fn unsigned_i32(n: i32) -> u64
-    ensures { result ≡ unsigned 4 n }
-{
-    if n < 0 {
-        return (n as i64 + 4294967296) as u64;
-    }
-    n as u64
-}
-
-pub fn write_u16(s: &mut [u8], at: usize, n: u16)
-    requires { at + 2 ≤ length s.old }
-    ensures { s.new ≡ written s.old at 2 n }
-{
-    write_number(s, at, 2, n as u64);
-}
-
-pub fn write_u32(s: &mut [u8], at: usize, n: u32)
-    requires { at + 4 ≤ length s.old }
-    ensures { s.new ≡ written s.old at 4 n }
-{
-    write_number(s, at, 4, n as u64);
-}
-
-pub fn write_u64(s: &mut [u8], at: usize, n: u64)
-    requires { at + 8 ≤ length s.old }
-    ensures { s.new ≡ written s.old at 8 n }
-{
-    write_number(s, at, 8, n);
+    write_number(s, at, T::WIDTH, n.into_field());
 }

@@ -2,79 +2,73 @@
 // rest, so that the runner's output would not show if this were wrong.
 #![tactic(auto)]
 
-ghost use Rattle.std.specs.Prelude.{◌≡◌, map, eqb, pos, ◌-ℤ◌, length, replicate, drop};
-ghost use Rattle.std.specs.Int.{w64};
-ghost use Rattle.std.proofs.Common.{of_z};
-ghost use Rattle.rules.specs.Lists.{all};
+ghost use Rattle.std.specs.Prelude.{◌≡◌, ℕ, ◌*◌, length, replicate, drop};
+ghost use Rattle.std.specs.Int.{w64, cast_signed};
+ghost use Rattle.std.proofs.Common.{rules};
+ghost use Rattle.std.specs.List.{list_all};
 
-pub fn fill_bytes(bytes: &mut [u8])
-    ensures { bytes.new ≡ replicate (length bytes.old) 165 }
-{
-    let mut i = 0;
-    while i < bytes.len() {
-        bytes[i] = 165;
-        i += 1;
+// The byte that buffers are filled with.
+const FILLER: u8 = 0xa5;
+
+// A type of numbers that buffers hold.
+pub trait Repeating: Copy + PartialEq {
+    ghost repeated: { ℕ → Self };
+
+    // The number of which every byte is `byte`.
+    fn repeated(byte: u8) -> Self
+        ensures { result ≡ repeated byte };
+
+    ghost clone_succeeds: { (x : Self) → Self.is_infallible x };
+
+    ghost clone_is_same: { (x y : Self) → Self.is_clone x y → y ≡ x };
+}
+
+impl Repeating for u8 {
+    ghost repeated = { λ byte. byte };
+
+    ghost clone_succeeds = { Prim.search rules };
+
+    ghost clone_is_same = { Prim.search rules };
+
+    fn repeated(byte: u8) -> u8 {
+        byte
     }
 }
 
-pub fn fill_numbers(numbers: &mut [u32])
-    ensures { numbers.new ≡ replicate (length numbers.old) 2779096485 }
-{
-    let mut i = 0;
-    while i < numbers.len() {
-        numbers[i] = 2779096485;
-        i += 1;
+impl Repeating for u32 {
+    ghost repeated = { λ byte. byte * 16843009 };
+
+    ghost clone_succeeds = { Prim.search rules };
+
+    ghost clone_is_same = { Prim.search rules };
+
+    fn repeated(byte: u8) -> u32 {
+        u32::from(byte) * 0x0101_0101
     }
 }
 
-pub fn fill_integers(integers: &mut [i64])
-    ensures { integers.new ≡ replicate (length integers.old) (pos 0 -ℤ pos 6510615555426900571) }
-{
-    let mut i = 0;
-    while i < integers.len() {
-        integers[i] = -6510615555426900571;
-        i += 1;
+impl Repeating for i64 {
+    ghost repeated = { λ byte. cast_signed w64 (byte * 72340172838076673) };
+
+    ghost clone_succeeds = { Prim.search rules };
+
+    ghost clone_is_same = { Prim.search rules };
+
+    fn repeated(byte: u8) -> i64 {
+        (u64::from(byte) * 0x0101_0101_0101_0101).cast_signed()
     }
 }
 
-// Whether the bytes from `from` on are what they were before the call.
-pub fn bytes_kept(bytes: &[u8], from: usize) -> bool
-    ensures { result ≡ all (λ b. eqb b 165) (drop from bytes.now) }
+pub fn fill<T: Repeating>(buffer: &mut [T])
+    ensures { buffer.new ≡ replicate (length buffer.old) (T.repeated 165) }
 {
-    let mut i = from;
-    while i < bytes.len() {
-        if bytes[i] != 165 {
-            return false;
-        }
-        i += 1;
-    }
-    true
+    buffer.fill(T::repeated(FILLER));
 }
 
 // Whether the numbers from `from` on are what they were before the call.
-pub fn numbers_kept(numbers: &[u32], from: usize) -> bool
-    ensures { result ≡ all (λ n. eqb n 2779096485) (drop from numbers.now) }
+pub fn kept<T: Repeating>(buffer: &[T], from: usize) -> bool
+    ensures { result ≡ list_all (λ x. T.eq x (T.repeated 165)) (drop from buffer.now) }
 {
-    let mut i = from;
-    while i < numbers.len() {
-        if numbers[i] != 2779096485 {
-            return false;
-        }
-        i += 1;
-    }
-    true
-}
-
-// Whether the integers from `from` on have the bits that they had before the call.
-pub fn integers_kept(integers: &[i64], from: usize) -> bool
-    ensures { result ≡ all (λ n. eqb n 11936128518282651045) (drop from (map (of_z w64) integers.now)) }
-{
-    let mut i = from;
-    while i < integers.len() {
-        if integers[i] != -6510615555426900571 {
-            return false;
-        }
-        i += 1;
-    }
-    true
+    let filler = T::repeated(FILLER);
+    buffer.iter().skip(from).all(|x| *x == filler)
 }

@@ -13,12 +13,13 @@ use Rattle.rules.specs.Refusal.{◌refuses◌, ◌then◌}
 use Rattle.rules.specs.Lists.{each, Every}
 use Rattle.rules.proofs.Lists.{each_get_or}
 use Rattle.rules.specs.declared.Refusal.TheVariants.{GencostMalformed, GencostNotWhole, GencostAboveLimit}
+use Rattle.std.specs.Prelude.{Ok, Err}
 use Rattle.gencost.specs.declared.Costs.{Costs}
 use Rattle.gencost.specs.Row.{blank, digit, some, words, tight, only, word, number, headed, malformed, number_after, Decimal, decimal, whole, scaled, ended, given, gencost_read}
 use Rattle.gencost.specs.Clauses.{Digits}
 use Rattle.gencost.specs.Claims.{Exact, ReadExactly, NeverEight, Word, Gap, Spaced, before, final, Spelled, Numeral, plain, pointed, Form, MalformedExactly, Alike, SameWords, WordsAreThose, OneAnswer, zeros, ZerosBefore, ZerosBehind, PointBehind, digits_of, decimal_of, row_of, EachHasARow}
-use Rattle.gencost.proofs.Forms.{clash, spaced-words, spaced-tight, tight-spaced, numeral-formed, formed-numeral}
-use Rattle.gencost.proofs.Grammar.{decimal-digits, decimal-parted, some-long}
+use Rattle.gencost.proofs.Forms.{spaced-words, spaced-tight, tight-spaced, numeral-formed, formed-numeral}
+use Rattle.gencost.proofs.Grammar.{clash, decimal-digits, decimal-parted, some-long}
 use Rattle.gencost.proofs.Numbers.{digit-range, after_append, every_take, every_drop}
 use Rattle.gencost.proofs.Placing.{few-whole, few-result}
 use Rattle.rules.proofs.Verdicts.{or_false}
@@ -33,12 +34,14 @@ record Passed (w a b c : Bool) (x y z c2 c1 c0 : ℕ) : Type 0 where
   linear : (b ≡ false) × (y ≡ c1)
   constant : (c ≡ false) × (z ≡ c0)
 
-passed : (w a b c : Bool) (x y z c2 c1 c0 : ℕ) → ended (w refuses GencostNotWhole then (a || b || c) refuses GencostAboveLimit) (Costs.Read x y z) ≡ Costs.Read c2 c1 c0 → Passed w a b c x y z c2 c1 c0
+passed : (w a b c : Bool) (x y z c2 c1 c0 : ℕ) → ended (w refuses GencostNotWhole then (a || b || c) refuses GencostAboveLimit) (Ok (record { c2 = x; c1 = y; c0 = z })) ≡ Ok (record { c2 = c2; c1 = c1; c0 = c0 }) → Passed w a b c x y z c2 c1 c0
 passed true a b c x y z c2 c1 c0 e = absurd (let z : ◌≡◌ {A = ℕ} 0 1 = cc in omega arith)
 passed false true b c x y z c2 c1 c0 e = absurd (let z : ◌≡◌ {A = ℕ} 0 1 = cc in omega arith)
 passed false false true c x y z c2 c1 c0 e = absurd (let z : ◌≡◌ {A = ℕ} 0 1 = cc in omega arith)
 passed false false false true x y z c2 c1 c0 e = absurd (let z : ◌≡◌ {A = ℕ} 0 1 = cc in omega arith)
-passed false false false false x y z c2 c1 c0 e = record { whole = refl; square = (refl, cc); linear = (refl, cc); constant = (refl, cc) }
+passed false false false false x y z c2 c1 c0 e =
+    let k : ◌≡◌ {A = Costs} (record { c2 = x; c1 = y; c0 = z }) (record { c2 = c2; c1 = c1; c0 = c0 }) = cc in
+    record { whole = refl; square = (refl, ap (λ (r : Costs). r.c2) k); linear = (refl, ap (λ (r : Costs). r.c1) k); constant = (refl, ap (λ (r : Costs). r.c0) k) }
 
 -- a coefficient that is read
 record Coefficient (factor limit : ℕ) (d : Decimal) (result : ℕ) : Type 0 where
@@ -53,11 +56,11 @@ record Coefficients (row : List ℕ) (c2 c1 c0 : ℕ) : Type 0 where
 coefficient : (factor limit : ℕ) (d : Decimal) {c : ℕ} → whole factor d ≡ true → (ltb limit (scaled factor d) ≡ false) × (scaled factor d ≡ c) → Coefficient factor limit d c
 coefficient factor limit d w h = record { exact = subst (Exact factor d) h.1 (exact factor d w); within = omega (arith, ltb-false limit (scaled factor d) h.0, h.1) }
 
-coefficients : (row : List ℕ) (c2 c1 c0 : ℕ) → gencost_read row ≡ Costs.Read c2 c1 c0 → Coefficients row c2 c1 c0
+coefficients : (row : List ℕ) (c2 c1 c0 : ℕ) → gencost_read row ≡ Ok (record { c2 = c2; c1 = c1; c0 = c0 }) → Coefficients row c2 c1 c0
 unfolding gencost_read given
 coefficients row c2 c1 c0 e = pick (malformed row) e
   where
-    pick : (b : Bool) → ended (b refuses GencostMalformed) (given (decimal (word row 4)) (decimal (word row 5)) (decimal (word row 6))) ≡ Costs.Read c2 c1 c0 → Coefficients row c2 c1 c0
+    pick : (b : Bool) → ended (b refuses GencostMalformed) (given (decimal (word row 4)) (decimal (word row 5)) (decimal (word row 6))) ≡ Ok (record { c2 = c2; c1 = c1; c0 = c0 }) → Coefficients row c2 c1 c0
     pick true f = absurd (let z : ◌≡◌ {A = ℕ} 0 1 = cc in omega arith)
     pick false f =
         let s = decimal (word row 4) in
@@ -167,18 +170,18 @@ formed row f =
     by-words _ row f.made f.short ∙ rw (numeral-formed f.startup n.0, numeral-formed f.shutdown n.1.0, numeral-formed f.square n.1.1.0, numeral-formed f.linear n.1.1.1.0, numeral-formed f.constant n.1.1.1.1.0)
 
 -- what the numbers give is never 26
-not-malformed : (w a b c : Bool) (x y z : ℕ) → ended (w refuses GencostNotWhole then (a || b || c) refuses GencostAboveLimit) (Costs.Read x y z) ≡ Costs.Refused GencostMalformed → ⊥
+not-malformed : (w a b c : Bool) (x y z : ℕ) → ended (w refuses GencostNotWhole then (a || b || c) refuses GencostAboveLimit) (Ok (record { c2 = x; c1 = y; c0 = z })) ≡ Err GencostMalformed → ⊥
 not-malformed true a b c x y z e = let z : ◌≡◌ {A = ℕ} 0 1 = cc in omega arith
 not-malformed false true b c x y z e = let z : ◌≡◌ {A = ℕ} 0 1 = cc in omega arith
 not-malformed false false true c x y z e = let z : ◌≡◌ {A = ℕ} 0 1 = cc in omega arith
 not-malformed false false false true x y z e = let z : ◌≡◌ {A = ℕ} 0 1 = cc in omega arith
 not-malformed false false false false x y z e = let z : ◌≡◌ {A = ℕ} 0 1 = cc in omega arith
 
-is-malformed : (row : List ℕ) → gencost_read row ≡ Costs.Refused GencostMalformed → malformed row ≡ true
+is-malformed : (row : List ℕ) → gencost_read row ≡ Err GencostMalformed → malformed row ≡ true
 unfolding gencost_read given
 is-malformed row e = pick (malformed row) e
   where
-    pick : (b : Bool) → ended (b refuses GencostMalformed) (given (decimal (word row 4)) (decimal (word row 5)) (decimal (word row 6))) ≡ Costs.Refused GencostMalformed → b ≡ true
+    pick : (b : Bool) → ended (b refuses GencostMalformed) (given (decimal (word row 4)) (decimal (word row 5)) (decimal (word row 6))) ≡ Err GencostMalformed → b ≡ true
     pick true f = refl
     pick false f =
         let s = decimal (word row 4) in
@@ -189,7 +192,7 @@ is-malformed row e = pick (malformed row) e
 pub malformed_exactly : MalformedExactly gencost_read
 malformed_exactly row = (λ e f. clash (is-malformed row e) (formed row f), λ n. pick n (malformed row) refl)
   where
-    pick : (Form row → ⊥) → (b : Bool) → malformed row ≡ b → gencost_read row ≡ Costs.Refused GencostMalformed
+    pick : (Form row → ⊥) → (b : Bool) → malformed row ≡ b → gencost_read row ≡ Err GencostMalformed
     pick n true e = sym (refused row e)
     pick n false e = absurd (n (form row e))
 
@@ -320,7 +323,7 @@ even d n f p q =
       ap₂ (λ (x k : ℕ). x * 10 ^ f / 10 ^ k) p q ∙ few-result n f f (omega arith) ∙ ap (λ (k : ℕ). n * 10 ^ k) z ∙ omega arith,
     )
 
-given-each : (s l c : Decimal) (c2 c1 c0 : ℕ) → (whole 10000 s ≡ true) × (scaled 10000 s ≡ c2) → (whole 100000 l ≡ true) × (scaled 100000 l ≡ c1) → (whole 1000000 c ≡ true) × (scaled 1000000 c ≡ c0) → c2 ≤ 1000 → c1 ≤ 10000000 → c0 ≤ 1000000000 → given s l c ≡ Costs.Read c2 c1 c0
+given-each : (s l c : Decimal) (c2 c1 c0 : ℕ) → (whole 10000 s ≡ true) × (scaled 10000 s ≡ c2) → (whole 100000 l ≡ true) × (scaled 100000 l ≡ c1) → (whole 1000000 c ≡ true) × (scaled 1000000 c ≡ c0) → c2 ≤ 1000 → c1 ≤ 10000000 → c0 ≤ 1000000000 → given s l c ≡ Ok (record { c2 = c2; c1 = c1; c0 = c0 })
 unfolding given
 given-each s l c c2 c1 c0 p q r h k m = rw (p.0, q.0, r.0, p.1, q.1, r.1, le-ltb 1000 c2 h, le-ltb 10000000 c1 k, le-ltb 1000000000 c0 m)
 

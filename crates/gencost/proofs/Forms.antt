@@ -2,26 +2,20 @@
 use Prim.Native.Nat.{ℕ, suc, ◌+◌, ◌-◌, ◌<◌}
 use native.Mathlib.Omega.{arith}
 use mathlib.Core.Bool.{Bool, true, false, not, and-eq-true_iff}
-use mathlib.Core.Path.{◌≡◌, refl, sym, ap, ◌∙◌, subst, subst⁻¹}
+use mathlib.Core.Path.{◌≡◌, refl, sym, ap, ◌∙◌, subst⁻¹}
 use mathlib.Core.List.{List, [], ◌∷◌, ◌++◌, append-nil, append_assoc}
 use lib.Dec.{eqb}
 use lib.ListN.{length, get_or, take, drop, length-append}
-use lib.Seq.{get_or-append-add, length-take-le, take_all}
-use lib.ListN.{length-drop}
+use lib.Seq.{get_or-append-add, length-take-le}
 use borrow.Author.Tests.{eqb-true, eqb-false, not-true}
-use Rattle.rules.specs.Lists.{Every, filter}
-use Rattle.rules.proofs.Lists.{every-at}
-use Rattle.gencost.specs.declared.Class.{Class}
+use Rattle.rules.specs.Lists.{all, Every, filter}
+use Rattle.rules.proofs.Lists.{every-at, all-every}
 use Rattle.gencost.specs.Row.{blank, digit, onto, pieces, some, words, tight, decimal}
-use Rattle.gencost.specs.Clauses.{class_end, Digits}
+use Rattle.gencost.specs.Clauses.{other, run}
 use Rattle.gencost.specs.Claims.{Word, Gap, Spaced, final, before, Numeral, plain, pointed}
-use Rattle.gencost.proofs.Grammar.{decimal-digits, decimal-parted, front, told_none, whole-digits, told-strange, told_bare, told-other, told-parts, behind-digits, some-long}
+use Rattle.gencost.proofs.Grammar.{clash, decimal-digits, decimal-parted, front, told_none, whole-digits, told-strange, told-point, told_bare, told-other, some-long}
 use Rattle.gencost.proofs.Runs.{Stops, run-within}
-use Rattle.gencost.proofs.Words.{other, positive, words-nothing, words-blanks, words-first}
-
--- a test does not both hold and fail
-pub clash : {P : Type 0} {b : Bool} → b ≡ true → b ≡ false → P
-clash e f = absurd (let z : ◌≡◌ {A = ℕ} 0 1 = cc in omega arith)
+use Rattle.gencost.proofs.Words.{positive, words-nothing, words-blanks, words-first}
 
 -- ---- words with gaps between them
 
@@ -135,22 +129,23 @@ formed-numeral w f =
     decide n 0
     (λ z. clash f (told_none w e z))
     (λ z. decide n (length w)
-    (λ l. plain w (some-long w (λ k. z (l ∙ k)), (whole-digits w e l).0))
+    (λ l. plain w (some-long w (λ k. z (l ∙ k)), whole-digits w e l))
     (λ l. let h : n < length w = omega (arith, run-within digit w) in
     decide (get_or w n 0) 46
-    (λ p. decide (n + 1) (length w)
-    (λ y. clash f (told_bare w e h p y))
-    (λ y. decide (class_end Class.Digit w (n + 1)) (length w)
-    (λ m.
-    let rest = drop (n + 1) w in
-    let long : length rest ≡ length w - (n + 1) = length-drop (n + 1) w in
-    let same : take (length w - (n + 1)) rest ≡ rest = take_all (length w - (n + 1)) rest (omega (arith, long)) in
-    subst⁻¹ Numeral (told-parts w e h p) (pointed (take n w) rest (some-long (take n w) (λ k. z (omega (arith, length-take-le n w (omega arith)))), front w e) (some-long rest (λ k. y (omega (arith, long))), subst Digits same (behind-digits w e h p refl m))))
-    (λ m. clash f (told-other w e h p refl m))))
+    (λ p. decide (length rest) 0
+    (λ y. clash f (told_bare w e h p refl y))
+    (λ y. pointed-by z h p y (all digit rest) refl))
     (λ p. clash f (told-strange w e h p))))
   where
     n : ℕ
-    n = class_end Class.Digit w 0
+    n = run digit w
 
-    e : n ≡ class_end Class.Digit w 0
+    e : n ≡ run digit w
     e = refl
+
+    rest : List ℕ
+    rest = drop (n + 1) w
+
+    pointed-by : (n ≡ 0 → ⊥) → n < length w → get_or w n 0 ≡ 46 → (length rest ≡ 0 → ⊥) → (b : Bool) → all digit rest ≡ b → Numeral w
+    pointed-by z h p y false a = clash f (told-other w e h p refl a)
+    pointed-by z h p y true a = subst⁻¹ Numeral (told-point w e h p refl) (pointed (take n w) rest (some-long (take n w) (λ k. z (omega (arith, length-take-le n w (omega arith)))), front w e) (some-long rest y, (all-every digit rest).0 a))

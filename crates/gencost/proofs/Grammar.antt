@@ -1,22 +1,24 @@
 -- Pieces, and the form of a number: how it is told by its first characters that are digits.
-use Prim.Native.Nat.{ℕ, ◌+◌, ◌-◌, ◌≤◌, ◌<◌}
-use native.Mathlib.Nat.{zero-add}
+use Prim.Native.Nat.{ℕ, ◌+◌, ◌≤◌, ◌<◌}
 use native.Mathlib.Numerals.{add-one}
 use native.Mathlib.Omega.{arith}
 use mathlib.Core.Bool.{Bool, true, false, cond, ◌&&◌}
 use mathlib.Core.Path.{◌≡◌, refl, sym, ap, ◌∙◌}
 use mathlib.Core.List.{List, [], ◌∷◌, ◌++◌, append-nil}
 use lib.Dec.{leb}
-use lib.ListN.{length, get_or, take, drop, take-append-drop, length-drop, drop_of_length-le}
-use lib.Seq.{drop-cons, take_all, take-length, take-nil, length-take-le}
+use lib.ListN.{length, get_or, take, drop, take-append-drop}
+use lib.Seq.{drop-cons, take_all, take-length, length-take-le}
 use borrow.Author.Tests.{lt-leb, ne_eqb}
 use Rattle.rules.specs.Lists.{all, Every}
-use Rattle.gencost.specs.declared.Class.{Class}
 use Rattle.gencost.specs.Row.{point, digit, onto, pieces, some, digits_only, decimal}
-use Rattle.gencost.specs.Clauses.{run, class_end, Digits}
+use Rattle.gencost.specs.Clauses.{run, Digits}
 use Rattle.gencost.proofs.Numbers.{digit-range}
 use Rattle.gencost.proofs.Placing.{spelt}
 use Rattle.gencost.proofs.Runs.{Stops, run-passes, run-stops, run-within}
+
+-- a test does not both hold and fail
+pub clash : {P : Type 0} {b : Bool} → b ≡ true → b ≡ false → P
+clash e f = absurd (let z : ◌≡◌ {A = ℕ} 0 1 = cc in omega arith)
 
 -- ---- pieces
 
@@ -144,15 +146,12 @@ pub some-long : (w : List ℕ) → (length w ≡ 0 → ⊥) → some w ≡ true
 some-long [] h = absurd (h refl)
 some-long (c ∷ w) h = refl
 
-module _ (w : List ℕ) {n : ℕ} (e : n ≡ class_end Class.Digit w 0) where
-  n-is : run digit w ≡ n
-  n-is = sym (e ∙ zero-add (run digit w))
-
+module _ (w : List ℕ) {n : ℕ} (e : n ≡ run digit w) where
   pub front : Digits (take n w)
-  front = rw n-is at (run-passes digit w)
+  front = rw e (run-passes digit w)
 
   stops : Stops digit (drop n w)
-  stops = rw n-is at (run-stops digit w)
+  stops = rw e (run-stops digit w)
 
   parts : w ≡ take n w ++ drop n w
   parts = sym (take-append-drop n w)
@@ -160,13 +159,11 @@ module _ (w : List ℕ) {n : ℕ} (e : n ≡ class_end Class.Digit w 0) where
   pub told_none : n ≡ 0 → (decimal w).formed ≡ false
   told_none z = unformed-start w (rw z at stops)
 
-  pub told-whole : (n ≡ 0 → ⊥) → n ≡ length w → decimal w ≡ spelt w (take (length w - n) (drop n w))
-  told-whole z l =
-      let d : Digits w = rw (l, take-length w) at front in
-      decimal-digits w (some-long w (λ k. z (l ∙ k))) d ∙ ap (spelt w) (sym (ap (take (length w - n)) (drop_of_length-le w {i = n} (omega arith)) ∙ take-nil (length w - n)))
+  pub whole-digits : n ≡ length w → Digits w
+  whole-digits l = rw (l, take-length w) at front
 
-  pub whole-digits : n ≡ length w → Digits w × Digits (take (length w - n) (drop n w))
-  whole-digits l = (rw (l, take-length w) at front, rw (drop_of_length-le w {i = n} (omega arith), take-nil (length w - n)) tt)
+  pub told-whole : (n ≡ 0 → ⊥) → n ≡ length w → decimal w ≡ spelt w []
+  told-whole z l = decimal-digits w (some-long w (λ k. z (l ∙ k))) (whole-digits l)
 
   module _ (h : n < length w) where
     rest-is : drop n w ≡ get_or w n 0 ∷ drop (n + 1) w
@@ -180,37 +177,28 @@ module _ (w : List ℕ) {n : ℕ} (e : n ≡ class_end Class.Digit w 0) where
 
     -- with a point there
     module _ (p : get_or w n 0 ≡ 46) where
-      pub told-parts : w ≡ take n w ++ 46 ∷ drop (n + 1) w
+      told-parts : w ≡ take n w ++ 46 ∷ drop (n + 1) w
       told-parts = parts ∙ ap (λ (l : List ℕ). take n w ++ l) (rest-is ∙ ap (λ (c : ℕ). c ∷ drop (n + 1) w) p)
 
-      long : length (drop (n + 1) w) ≡ length w - (n + 1)
-      long = length-drop (n + 1) w
+      module _ {rest : List ℕ} (f : rest ≡ drop (n + 1) w) where
+        pub told-point : w ≡ take n w ++ 46 ∷ rest
+        told-point = told-parts ∙ ap (λ (l : List ℕ). take n w ++ 46 ∷ l) (sym f)
 
-      pub told_bare : n + 1 ≡ length w → (decimal w).formed ≡ false
-      told_bare l =
-          let none : w ≡ take n w ++ 46 ∷ [] = told-parts ∙ ap (λ (l : List ℕ). take n w ++ 46 ∷ l) (drop_of_length-le w {i = n + 1} (omega arith)) in
-          ap (λ (x : List ℕ). (decimal x).formed) none ∙ unformed_bare (take n w) front
+        pub told_bare : length rest ≡ 0 → (decimal w).formed ≡ false
+        told_bare l = ap (λ (x : List ℕ). (decimal x).formed) (told-point ∙ ap (λ (l : List ℕ). take n w ++ 46 ∷ l) (nothing rest l)) ∙ unformed_bare (take n w) front
+          where
+            nothing : (s : List ℕ) → length s ≡ 0 → s ≡ []
+            nothing [] l = refl
+            nothing (c ∷ s) l = absurd (omega arith)
 
-      module _ {m : ℕ} (f : m ≡ class_end Class.Digit w (n + 1)) where
-        pub told-other : (m ≡ length w → ⊥) → (decimal w).formed ≡ false
+        pub told-other : all digit rest ≡ false → (decimal w).formed ≡ false
         told-other z =
-            let rest = drop (n + 1) w in
             let r = run digit rest in
             let d : Digits (take r rest) = run-passes digit rest in
-            ap (λ (x : List ℕ). (decimal x).formed) told-parts
-            ∙ unformed-rest (take n w) rest (take r rest) (drop r rest) front (sym (take-append-drop r rest)) d (run-stops digit rest) (λ k. z (omega (arith, long, k, f, length-take-le r rest (run-within digit rest))))
+            let whole : length rest ≡ length (take r rest) → ⊥ = λ k. clash (all_digits rest (rw (take_all r rest (omega (arith, k, length-take-le r rest (run-within digit rest)))) at d)) z in
+            ap (λ (x : List ℕ). (decimal x).formed) told-point ∙ unformed-rest (take n w) rest (take r rest) (drop r rest) front (sym (take-append-drop r rest)) d (run-stops digit rest) whole
 
-        module _ (l : m ≡ length w) where
-          pub behind-digits : Digits (take (length w - (n + 1)) (drop (n + 1) w))
-          behind-digits =
-              let rest = drop (n + 1) w in
-              let k : run digit rest ≡ length w - (n + 1) = omega (arith, f) in
-              rw k at (run-passes digit rest)
-
-          pub told-parted : (n ≡ 0 → ⊥) → (n + 1 ≡ length w → ⊥) → decimal w ≡ spelt (take n w) (take (length w - (n + 1)) (drop (n + 1) w))
-          told-parted z y =
-              let rest = drop (n + 1) w in
-              let same : take (length w - (n + 1)) rest ≡ rest = take_all (length w - (n + 1)) rest (omega (arith, long)) in
-              let some-front : some (take n w) ≡ true = some-long (take n w) (λ k. z (omega (arith, length-take-le n w (omega arith)))) in
-              let some-rest : some rest ≡ true = some-long rest (λ k. y (omega (arith, long))) in
-              ap decimal told-parts ∙ decimal-parted (take n w) rest some-front front some-rest (rw same at behind-digits) ∙ ap (spelt (take n w)) (sym same)
+        pub told-parted : (n ≡ 0 → ⊥) → (length rest ≡ 0 → ⊥) → Digits rest → decimal w ≡ spelt (take n w) rest
+        told-parted z y d =
+            let some-front : some (take n w) ≡ true = some-long (take n w) (λ k. z (omega (arith, length-take-le n w (omega arith)))) in
+            ap decimal told-point ∙ decimal-parted (take n w) rest some-front front (some-long rest y) d

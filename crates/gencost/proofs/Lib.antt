@@ -6,7 +6,6 @@ pub mod Placing
 pub mod Reading
 pub mod Runs
 pub mod Scanning
-pub mod Table
 pub mod Taking
 pub mod Values
 pub mod Words

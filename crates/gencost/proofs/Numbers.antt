@@ -3,16 +3,16 @@ use Prim.Native.Nat.{ℕ, zero, suc, ◌+◌, ◌-◌, ◌*◌, ◌^◌, ◌≤�
 use native.Mathlib.Nat.{pow-suc, mul-le-mul_right}
 use native.Mathlib.Numerals.{add-one}
 use native.Mathlib.Omega.{arith}
-use mathlib.Core.Bool.{Bool, true, false, cond, and-eq-true_iff}
+use mathlib.Core.Bool.{Bool, true, false, ◌&&◌, and-eq-true_iff}
 use mathlib.Core.Path.{◌≡◌, refl, sym, ap, ◌∙◌}
 use mathlib.Core.List.{List, [], ◌∷◌, ◌++◌}
-use lib.Dec.{ltb, leb, eqb, eqb-zero-suc, eqb-suc-suc}
-use lib.ListN.{length, get_or, take, drop, drop_of_length-le}
+use lib.Dec.{ltb, leb, eqb}
+use lib.ListN.{length, get_or, take, drop}
 use lib.Seq.{drop-cons}
 use borrow.Author.Tests.{lt-ltb, le-ltb, ne_eqb, leb-true, ltb-true, ltb-false, eqb-true, eqb-false}
-use Rattle.rules.specs.Lists.{Every}
+use Rattle.rules.specs.Lists.{all, Every}
 use Rattle.gencost.specs.Row.{digit, number_after}
-use Rattle.gencost.specs.Clauses.{Digits, held, run}
+use Rattle.gencost.specs.Clauses.{Digits, held}
 
 pub digit-range : (c : ℕ) → digit c ≡ true → (48 ≤ c) × (c ≤ 57)
 digit-range c e = let b = (and-eq-true_iff (leb 48 c) (leb c 57)).0 e in (leb-true 48 c b.0, leb-true c 57 b.1)
@@ -61,18 +61,18 @@ after_grows n (y ∷ ys) =
     omega (arith, after_grows (10 * n + (y - 48)) ys)
 
 -- digits spell 0 exactly where each of them is 0
-pub zeros-spell : (ys : List ℕ) → Digits ys → eqb (run (λ c. eqb c 48) ys) (length ys) ≡ eqb (number_after 0 ys) 0
+pub zeros-spell : (ys : List ℕ) → Digits ys → all (λ c. eqb c 48) ys ≡ eqb (number_after 0 ys) 0
 zeros-spell [] h = refl
 zeros-spell (y ∷ ys) h = pick (eqb y 48) refl (zeros-spell ys h.1)
   where
-    pick : (b : Bool) → eqb y 48 ≡ b → eqb (run (λ c. eqb c 48) ys) (length ys) ≡ eqb (number_after 0 ys) 0 → eqb (cond b (suc (run (λ c. eqb c 48) ys)) 0) (suc (length ys)) ≡ eqb (number_after 0 (y ∷ ys)) 0
-    pick true e k = let z : y ≡ 48 = eqb-true y 48 e in rw z (eqb-suc-suc (run (λ c. eqb c 48) ys) (length ys) ∙ k)
+    pick : (b : Bool) → eqb y 48 ≡ b → all (λ c. eqb c 48) ys ≡ eqb (number_after 0 ys) 0 → (b && all (λ c. eqb c 48) ys) ≡ eqb (number_after 0 (y ∷ ys)) 0
+    pick true e k = let z : y ≡ 48 = eqb-true y 48 e in rw z k
     pick false e k =
         let r = digit-range y h.0 in
         let here : number_after 0 (y ∷ ys) ≡ number_after (y - 48) ys = ap (λ (m : ℕ). number_after m ys) (omega arith) in
         let z : y ≡ 48 → ⊥ = eqb-false y 48 e in
         let p : 0 < y - 48 = omega arith in
-        eqb-zero-suc (length ys) ∙ sym (ne_eqb (number_after 0 (y ∷ ys)) 0 (λ w. omega (arith, after_grows (y - 48) ys)))
+        sym (ne_eqb (number_after 0 (y ∷ ys)) 0 (λ w. omega (arith, after_grows (y - 48) ys)))
 
 -- ---- up to a limit
 
@@ -93,9 +93,6 @@ module _ (limit : ℕ) where
   pub held-most : (n : ℕ) → held limit n ≤ limit + 1
   held-most n = by_cases n (λ h. rw (held-above n h) (omega arith)) (λ h. rw (held_below n h) (omega arith))
 
-  pub held_small : (n : ℕ) → n ≤ limit + 1 → held limit n ≡ n
-  held_small n h = by_cases n (λ k. held-above n k ∙ omega arith) (λ k. held_below n k)
-
   -- it is above the limit exactly where the number is
   pub held-over : (n : ℕ) → ltb limit (held limit n) ≡ ltb limit n
   held-over n = by_cases n (λ h. rw (held-above n h) (lt-ltb limit (limit + 1) (omega arith) ∙ sym (lt-ltb limit n h))) (λ h. rw (held_below n h))
@@ -109,25 +106,9 @@ module _ (limit : ℕ) where
 
 -- ---- the loop
 
-pub record Spelling (before : ℕ) (s : List ℕ) (limit n i : ℕ) : Type 0 where
-  pub within : i ≤ length s
-  pub most : n ≤ limit + 1
-  pub rest : held limit (number_after before s) ≡ held limit (number_after n (drop i s))
-
 module _ (before : ℕ) (s : List ℕ) (limit : ℕ) where
-  pub spelling_starts : before ≤ limit + 1 → Spelling before s limit before 0
-  spelling_starts h = record { within = omega arith; most = h; rest = refl }
-
-  module _ {n i : ℕ} (p : Spelling before s limit n i) where
-    pub spelling_more : i < length s → {m : ℕ} → m ≡ held limit (10 * n + (get_or s i 0 - 48)) → Spelling before s limit m (i + 1)
-    spelling_more h {m} e =
-        let next = 10 * n + (get_or s i 0 - 48) in
-        let step : number_after n (drop i s) ≡ number_after next (drop (i + 1) s) = rw (drop-cons s i 0 h, add-one) in
-        record {
-          within = omega arith;
-          most = rw e (held-most limit next);
-          rest = p.rest ∙ ap (held limit) step ∙ held-through limit (λ k. number_after k (drop (i + 1) s)) (λ k. after_grows k (drop (i + 1) s)) next ∙ ap (λ (k : ℕ). held limit (number_after k (drop (i + 1) s))) (sym e);
-        }
-
-    pub spelling_ends : length s ≤ i → (n ≡ held limit (number_after before s)) × (n ≤ limit + 1)
-    spelling_ends h = (sym (p.rest ∙ rw (drop_of_length-le s {i = i} h) (held_small limit n p.most)), p.most)
+  pub spelling_more : (n i : ℕ) → i < length s → held limit (number_after before s) ≡ held limit (number_after n (drop i s)) → {m : ℕ} → m ≡ held limit (10 * n + (get_or s i 0 - 48)) → held limit (number_after before s) ≡ held limit (number_after m (drop (i + 1) s))
+  spelling_more n i h rest {m} e =
+      let next = 10 * n + (get_or s i 0 - 48) in
+      let step : number_after n (drop i s) ≡ number_after next (drop (i + 1) s) = rw (drop-cons s i 0 h, add-one) in
+      rest ∙ ap (held limit) step ∙ held-through limit (λ k. number_after k (drop (i + 1) s)) (λ k. after_grows k (drop (i + 1) s)) next ∙ ap (λ (k : ℕ). held limit (number_after k (drop (i + 1) s))) (sym e)

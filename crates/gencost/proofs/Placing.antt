@@ -8,10 +8,13 @@ use mathlib.Core.List.{List, ◌++◌, append_assoc}
 use lib.Dec.{eqb}
 use lib.ListN.{length, take, drop, take-append-drop, length-drop}
 use lib.Pow.{pow-add}
+use lib.Seq.{take_all}
 use borrow.Author.Tests.{eq-eqb, ne_eqb, eqb-true, eqb-false}
-use Rattle.gencost.specs.declared.Class.{Class}
+use Rattle.std.specs.List.{list_all}
+use Rattle.rules.specs.Lists.{all}
 use Rattle.gencost.specs.Row.{number_after, Decimal}
-use Rattle.gencost.specs.Clauses.{Digits, held, run, class_end, valued}
+use Rattle.gencost.specs.Clauses.{Digits, held, valued}
+use Rattle.gencost.proofs.Runs.{all-is}
 use Rattle.gencost.proofs.Numbers.{after_append, after_shift, after_grows, below_power, zeros-spell, held-through}
 
 pub ten_pos : (k : ℕ) → 0 < 10 ^ k
@@ -72,21 +75,6 @@ module _ (before past : List ℕ) (f : ℕ) (digits : Digits past) where
           let m : 1 * 10 ^ f ≤ b * 10 ^ f = mul-le-mul_right (10 ^ f) one in
           ne_eqb (b * 10 ^ f) 0 (λ w. omega (arith, ten_pos f))
 
--- ---- the power of ten is small enough for a product
-
-pub power_most : (k : ℕ) → k ≤ 6 → 10 ^ k ≤ 1000000
-power_most k h =
-    let e : 10 ^ (6 - k + k) ≡ 10 ^ (6 - k) * 10 ^ k = pow-add 10 (6 - k) k in
-    let s : 10 ^ (6 - k + k) ≡ 10 ^ 6 = let j : 6 - k + k ≡ 6 = omega arith in ap (λ (j : ℕ). 10 ^ j) j in
-    let m : 1 * 10 ^ k ≤ 10 ^ (6 - k) * 10 ^ k = mul-le-mul_right (10 ^ k) (ten_pos (6 - k)) in
-    omega arith
-
-pub product-fits : (n p k : ℕ) → n ≤ 1000000001 → k ≤ 6 → p ≡ 10 ^ k → n * p ≤ 1000000001 * 1000000
-product-fits n p k h l e =
-    let a : n * p ≤ n * 1000000 = mul-le-mul_left n (omega (arith, power_most k l)) in
-    let b : n * 1000000 ≤ 1000000001 * 1000000 = mul-le-mul_right 1000000 h in
-    omega arith
-
 -- ---- what `placed` gives
 
 abbrev pub spelt : List ℕ → List ℕ → Decimal
@@ -105,9 +93,9 @@ module _ (ds fs : List ℕ) (places limit : ℕ) where
       grown : (k : ℕ) → k ≤ k * 10 ^ (places - length fs)
       grown k = let m : k * 1 ≤ k * 10 ^ (places - length fs) = mul-le-mul_left k (ten_pos (places - length fs)) in omega arith
 
-  pub placed-more : places < length fs → Digits (drop places fs) → {ones r e : ℕ} → ones ≡ held limit (number_after 0 ds) → r ≡ held limit (number_after ones (take places fs)) → e ≡ class_end Class.Zero fs places → record { result = r; whole = eqb e (length fs) } ≡ valued places limit (spelt ds fs)
+  pub placed-more : places < length fs → Digits (drop places fs) → {ones r : ℕ} {w : Bool} → ones ≡ held limit (number_after 0 ds) → r ≡ held limit (number_after ones (take places fs)) → w ≡ list_all (λ c. eqb c 48) (take (length fs - places) (drop places fs)) → record { result = r; whole = w } ≡ valued places limit (spelt ds fs)
   unfolding valued
-  placed-more h digits {ones} {r} {e} o g z =
+  placed-more h digits {ones} {r} {w} o g z =
       let front = take places fs in
       let past = drop places fs in
       let parted : ds ++ fs ≡ (ds ++ front) ++ past = ap (λ (l : List ℕ). ds ++ l) (sym (take-append-drop places fs)) ∙ sym (append_assoc ds front past) in
@@ -115,12 +103,5 @@ module _ (ds fs : List ℕ) (places limit : ℕ) where
       let number = number_after 0 (ds ++ front) in
       let r-is : r ≡ held limit number = g ∙ ap (λ (k : ℕ). held limit (number_after k front)) o ∙ sym (held-through limit (λ k. number_after k front) (λ k. after_grows k front) (number_after 0 ds)) ∙ ap (held limit) (sym (after_append 0 ds front)) in
       let quotient : number_after 0 (ds ++ fs) * 10 ^ places / 10 ^ length fs ≡ number = ap₂ (λ (l : List ℕ) (k : ℕ). number_after 0 l * 10 ^ places / 10 ^ k) parted (sym long) ∙ past-result (ds ++ front) past places digits in
-      let exact : eqb (number_after 0 (ds ++ fs) * 10 ^ places % 10 ^ length fs) 0 ≡ eqb (run (λ c. eqb c 48) past) (length past) = ap₂ (λ (l : List ℕ) (k : ℕ). eqb (number_after 0 l * 10 ^ places % 10 ^ k) 0) parted (sym long) ∙ past-whole (ds ++ front) past places digits ∙ sym (zeros-spell past digits) in
-      ap₂ (λ (x : ℕ) (w : Bool). record { result = x; whole = w }) (r-is ∙ ap (held limit) (sym quotient)) (sym (exact ∙ shifted (run (λ c. eqb c 48) past) (length past) places e (length fs) z (sym long)))
-    where
-      shifted : (m n k a b : ℕ) → a ≡ k + m → b ≡ k + n → eqb m n ≡ eqb a b
-      shifted m n k a b p q = pick (eqb m n) refl
-        where
-          pick : (t : Bool) → eqb m n ≡ t → t ≡ eqb a b
-          pick true e = sym (eq-eqb a b (omega (arith, eqb-true m n e)))
-          pick false e = let z : m ≡ n → ⊥ = eqb-false m n e in sym (ne_eqb a b (λ w. z (omega arith)))
+      let exact : eqb (number_after 0 (ds ++ fs) * 10 ^ places % 10 ^ length fs) 0 ≡ all (λ c. eqb c 48) past = ap₂ (λ (l : List ℕ) (k : ℕ). eqb (number_after 0 l * 10 ^ places % 10 ^ k) 0) parted (sym long) ∙ past-whole (ds ++ front) past places digits ∙ sym (zeros-spell past digits) in
+      ap₂ (λ (x : ℕ) (w : Bool). record { result = x; whole = w }) (r-is ∙ ap (held limit) (sym quotient)) (z ∙ ap (list_all (λ c. eqb c 48)) (take_all (length fs - places) past (omega (arith, long))) ∙ all-is (λ c. eqb c 48) past ∙ sym exact)

@@ -1,66 +1,40 @@
 -- A row by where its reading ends.
-use Prim.Native.Nat.{ℕ, ◌+◌, ◌-◌, ◌≤◌, ◌<◌}
+use Prim.Native.Nat.{ℕ, ◌-◌, ◌≤◌, ◌<◌}
 use native.Mathlib.Omega.{arith}
 use mathlib.Core.Bool.{Bool, true, false, cond, not, ◌&&◌, ◌||◌, or-true, and-false}
-use mathlib.Core.Path.{◌≡◌, refl, sym, ap, ap₂, ◌∙◌}
+use mathlib.Core.Path.{◌≡◌, refl, sym, ap, ◌∙◌}
 use mathlib.Core.List.{List, [], ◌∷◌}
 use lib.Dec.{ltb, eqb}
-use lib.ListN.{length, get_or, drop, length-drop, get_or-eq_default}
-use lib.Seq.{get_or-drop}
-use borrow.Author.Tests.{ltb-false, lt-ltb, le-ltb, eq-eqb, ne_eqb}
+use lib.ListN.{length, get_or, length-drop, get_or-eq_default}
+use borrow.Author.Tests.{eqb-true, eqb-false, lt-ltb, le-ltb, eq-eqb, ne_eqb}
 use Rattle.rules.specs.Refusal.{◌refuses◌, ◌then◌}
+use Rattle.rules.specs.declared.Refusal.{Refusal}
 use Rattle.rules.specs.declared.Refusal.TheVariants.{GencostMalformed, GencostNotWhole, GencostAboveLimit}
-use Rattle.rules.proofs.Verdicts.{or_false}
-use Rattle.gencost.specs.declared.Costs.{Costs}
+use Rattle.std.specs.Prelude.{Option, Some, None, Result, Ok, Err}
+use Rattle.std.specs.Option.{ok_or}
+use Rattle.std.specs.Bool.{then_some}
+use Rattle.gencost.specs.declared.Coefficients.{Coefficients}
 use Rattle.gencost.specs.declared.Number.{Number}
-use Rattle.gencost.specs.Row.{blank, words, tight, word, number, headed, malformed, Decimal, decimal, whole, scaled, ended, given, gencost_read}
-use Rattle.gencost.specs.Clauses.{Behind, valued, judged}
+use Rattle.gencost.specs.Row.{blank, words, tight, word, number, headed, malformed, Decimal, decimal, whole, scaled, Answer, ended, given, gencost_read}
+use Rattle.gencost.specs.Clauses.{first_word, last, Behind, HeadEnd, NumberFirst, valued, parsed, judged}
 use Rattle.gencost.proofs.Numbers.{held-over}
 use Rattle.gencost.proofs.Words.{words-nothing, blank-at}
+use Rattle.gencost.proofs.Taking.{Took, took, took-none}
 
 -- ---- what the numbers give
 
--- what no test finds
-pub none : (a b c : Bool) → (a || b || c) ≡ false → (a ≡ false) × (b ≡ false) × (c ≡ false)
-none a b c e = let two = (or_false (a || b) c).0 e in let one = (or_false a b).0 two.0 in (one.0, one.1, two.1)
-
--- some number is not whole where they are not all whole
-pub not-all : (a b c : Bool) → (not a || not b || not c) ≡ not (a && b && c)
-not-all true true c = refl
-not-all true false c = refl
-not-all false b c = refl
-
-module _ (s l c : Number) where
-  abbrev above : Bool
-  above = ltb 1000 s.result || ltb 10000000 l.result || ltb 1000000000 c.result
-
-  module _ {t : Bool} (e : t ≡ (not s.whole || not l.whole || not c.whole)) where
-    pub judged_not_whole : t ≡ true → Costs.Refused GencostNotWhole ≡ judged s l c
-    unfolding judged
-    judged_not_whole f = rw (sym (not-all s.whole l.whole c.whole) ∙ sym e ∙ f)
-
-    module _ (f : t ≡ false) {u : Bool} (g : u ≡ above) where
-      pub judged-above : u ≡ true → Costs.Refused GencostAboveLimit ≡ judged s l c
-      unfolding judged
-      judged-above h = rw (sym (not-all s.whole l.whole c.whole) ∙ sym e ∙ f, sym g ∙ h)
-
-      pub judged-read : u ≡ false → Costs.Read s.result l.result c.result ≡ judged s l c
-      unfolding judged
-      judged-read h = rw (sym (not-all s.whole l.whole c.whole) ∙ sym e ∙ f, sym g ∙ h)
-
-  pub within-limits : {u : Bool} → u ≡ above → u ≡ false → (s.result ≤ 1000) × (l.result ≤ 10000000) × (c.result ≤ 1000000000)
-  within-limits g h =
-      let n = none (ltb 1000 s.result) (ltb 10000000 l.result) (ltb 1000000000 c.result) (sym g ∙ h) in
-      (ltb-false 1000 s.result n.0, ltb-false 10000000 l.result n.1, ltb-false 1000000000 c.result n.2)
-
-accepted : (w a b c : Bool) (x y z x' y' z' : ℕ) → ended (w refuses GencostNotWhole then (a || b || c) refuses GencostAboveLimit) (Costs.Read (cond a x' x) (cond b y' y) (cond c z' z)) ≡ ended (w refuses GencostNotWhole then (a || b || c) refuses GencostAboveLimit) (Costs.Read x y z)
+accepted : (w a b c : Bool) (x y z x' y' z' : ℕ) → ended (w refuses GencostNotWhole then (a || b || c) refuses GencostAboveLimit) (Ok (record { c2 = cond a x' x; c1 = cond b y' y; c0 = cond c z' z })) ≡ ended (w refuses GencostNotWhole then (a || b || c) refuses GencostAboveLimit) (Ok (record { c2 = x; c1 = y; c0 = z }))
 accepted true a b c x y z x' y' z' = refl
 accepted false true b c x y z x' y' z' = refl
 accepted false false true c x y z x' y' z' = refl
 accepted false false false true x y z x' y' z' = refl
 accepted false false false false x y z x' y' z' = refl
 
-pub judged-given : (s l c : Decimal) → judged (valued 4 1000 s) (valued 5 10000000 l) (valued 6 1000000000 c) ≡ given s l c
+-- the numbers that a row spells, each up to one above its limit
+abbrev pub spelled : Decimal → Decimal → Decimal → Coefficients
+spelled s l c = record { square = valued 4 1000 s; linear = valued 5 10000000 l; constant = valued 6 1000000000 c }
+
+pub judged-given : (s l c : Decimal) → judged (spelled s l c) ≡ given s l c
 unfolding judged valued given
 judged-given s l c =
     rw (held-over 1000 (scaled 10000 s), held-over 10000000 (scaled 100000 l), held-over 1000000000 (scaled 1000000 c))
@@ -69,7 +43,7 @@ judged-given s l c =
 -- ---- malformed rows
 
 module _ (row : List ℕ) where
-  pub refused : malformed row ≡ true → Costs.Refused GencostMalformed ≡ gencost_read row
+  pub refused : malformed row ≡ true → Err GencostMalformed ≡ gencost_read row
   unfolding gencost_read
   refused e = rw e
 
@@ -106,35 +80,107 @@ module _ (row : List ℕ) where
   blank-first h e = rw (first_any h, e)
 
   -- the last one
-  pub blank-last : blank (get_or row (length row - 1) 32) ≡ true → tight row ≡ false
+  pub blank-last : blank (last row) ≡ true → tight row ≡ false
   unfolding tight
   blank-last e = rw e (and-false (not (blank (get_or row 0 32))))
 
-  pub not-ended : {end : ℕ} → Behind row 7 end → (end ≡ length row → ⊥) → malformed row ≡ true
-  not-ended {end} b z = pick (words (drop end row)) refl
+  pub not-ended : {rest : List ℕ} → Behind row 7 rest → (length rest ≡ 0 → ⊥) → malformed row ≡ true
+  not-ended {rest} b z = pick (words rest) refl
     where
-      pick : (ws : List (List ℕ)) → words (drop end row) ≡ ws → malformed row ≡ true
+      pick : (ws : List (List ℕ)) → words rest ≡ ws → malformed row ≡ true
       pick [] e =
-          let l : length (drop end row) ≡ length row - end = length-drop end row in
-          let some : 0 < length row - end = omega (arith, b.within) in
-          let last : get_or (drop end row) (length row - end - 1) 32 ≡ get_or row (length row - 1) 32 = get_or-drop end row (length row - end - 1) 32 ∙ (let p : end + (length row - end - 1) ≡ length row - 1 = omega arith in ap (λ (k : ℕ). get_or row k 32) p) in
-          not-tight (blank-last (rw last at (blank-at (drop end row) (length row - end - 1) (omega arith) e)))
-      pick (w ∷ ws) e = not-seven (λ s. omega (arith, length-drop 7 (words row), ap length (b.rest ∙ e)))
+          let some : 0 < length rest = omega arith in
+          not-tight (blank-last (ap blank (sym (b.ending some)) ∙ blank-at rest (length rest - 1) (omega arith) e))
+      pick (w ∷ ws) e = not-seven (λ s. omega (arith, length-drop 7 (words row), ap length (b.words ∙ e)))
 
   -- ---- a row of the form
 
-  pub formed : length row ≤ 256 → 0 < length row → blank (get_or row 0 0) ≡ false → headed row ≡ true → number row 4 ≡ true → number row 5 ≡ true → number row 6 ≡ true → {end : ℕ} → Behind row 7 end → end ≡ length row → blank (get_or row (end - 1) 32) ≡ false → malformed row ≡ false
+  pub formed : length row ≤ 256 → 0 < length row → blank (get_or row 0 0) ≡ false → headed row ≡ true → number row 4 ≡ true → number row 5 ≡ true → number row 6 ≡ true → {rest : List ℕ} → Behind row 7 rest → length rest ≡ 0 → blank (last row) ≡ false → malformed row ≡ false
   unfolding malformed tight
-  formed short some solid head square linear constant {end} b e last =
-      let none : words (drop end row) ≡ [] = words-nothing (drop end row) (omega (arith, length-drop end row)) in
-      let seven : length (words row) ≡ 7 = omega (arith, b.count, length-drop 7 (words row), ap length (b.rest ∙ none)) in
-      let z : blank (get_or row (length row - 1) 32) ≡ false = rw e at last in
+  formed short some solid head square linear constant {rest} b e z =
+      let none : words rest ≡ [] = words-nothing rest e in
+      let seven : length (words row) ≡ 7 = omega (arith, b.count, length-drop 7 (words row), ap length (b.words ∙ none)) in
       rw (le-ltb 256 (length row) short, first_any some, solid, z, eq-eqb (length (words row)) 7 seven, head, square, linear, constant)
 
   pub read-given : malformed row ≡ false → gencost_read row ≡ given (decimal (word row 4)) (decimal (word row 5)) (decimal (word row 6))
   unfolding gencost_read
   read-given e = rw e
 
-  pub read-judged : malformed row ≡ false → {s l c : Number} {r : Costs} → s ≡ valued 4 1000 (decimal (word row 4)) → l ≡ valued 5 10000000 (decimal (word row 5)) → c ≡ valued 6 1000000000 (decimal (word row 6)) → r ≡ judged s l c → r ≡ gencost_read row
-  read-judged e {s} {l} {c} f g h z =
-      z ∙ ap₂ (λ (x y : Number). judged x y c) f g ∙ ap (judged (valued 4 1000 (decimal (word row 4))) (valued 5 10000000 (decimal (word row 5)))) h ∙ judged-given (decimal (word row 4)) (decimal (word row 5)) (decimal (word row 6)) ∙ sym (read-given e)
+  -- ---- what `parsed` gives
+
+  not-parsed : malformed row ≡ true → None ≡ parsed row
+  unfolding parsed
+  not-parsed e = rw e
+
+  pub parsed-short : 256 < length row → None ≡ parsed row
+  parsed-short h = not-parsed (too_long h)
+
+  pub parsed-empty : length row ≡ 0 → None ≡ parsed row
+  parsed-empty h = not-parsed (not-tight (empty h))
+
+  pub parsed-blank : (length row ≡ 0 → ⊥) → blank (get_or row 0 0) ≡ true → None ≡ parsed row
+  parsed-blank h e = not-parsed (not-tight (blank-first (omega arith) e))
+
+  pub parsed-no-head : headed row ≡ false → None ≡ parsed row
+  parsed-no-head e = not-parsed (other_word (rw e))
+
+  module _ {head : List ℕ} (e : HeadEnd row head) where
+    pub parsed-no-square : (decimal (first_word head)).formed ≡ false → None ≡ parsed row
+    parsed-no-square f = not-parsed (other_word (rw (e.headed, took-none row e.behind f)))
+
+    module _ {square : Number} {fourth : List ℕ} (f : NumberFirst 4 1000 head square fourth) where
+      s : Took row 4 4 1000 square fourth
+      s = took row e.behind f
+
+      pub parsed-no-linear : (decimal (first_word fourth)).formed ≡ false → None ≡ parsed row
+      parsed-no-linear g = not-parsed (other_word (rw (e.headed, s.formed, took-none row s.behind g)))
+
+      module _ {linear : Number} {fifth : List ℕ} (g : NumberFirst 5 10000000 fourth linear fifth) where
+        l : Took row 5 5 10000000 linear fifth
+        l = took row s.behind g
+
+        pub parsed-no-constant : (decimal (first_word fifth)).formed ≡ false → None ≡ parsed row
+        parsed-no-constant h = not-parsed (other_word (rw (e.headed, s.formed, l.formed, took-none row l.behind h)))
+
+        module _ {constant : Number} {rest : List ℕ} (h : NumberFirst 6 1000000000 fifth constant rest) where
+          c : Took row 6 6 1000000000 constant rest
+          c = took row l.behind h
+
+          abbrev numbers : Coefficients
+          numbers = record { square = square; linear = linear; constant = constant }
+
+          pub parsed-ends : length row ≤ 256 → (length row ≡ 0 → ⊥) → blank (get_or row 0 0) ≡ false → {ended : Bool} → ended ≡ eqb (length rest) 0 → then_some ended numbers ≡ parsed row
+          unfolding parsed
+          parsed-ends short some solid z = rw z (pick (eqb (length rest) 0) refl)
+            where
+              whole-form : length rest ≡ 0 → malformed row ≡ false
+              whole-form end = formed short (omega arith) solid e.headed s.formed l.formed c.formed c.behind end (c.solid end)
+
+              all : length rest ≡ 0 → Some numbers ≡ parsed row
+              all end = rw (whole-form end, s.value, l.value, c.value)
+
+              pick : (b : Bool) → eqb (length rest) 0 ≡ b → then_some b numbers ≡ parsed row
+              pick true z = all (eqb-true (length rest) 0 z)
+              pick false z = not-parsed (not-ended c.behind (eqb-false (length rest) 0 z))
+
+  -- ---- what `read` gives
+
+  read-malformed : None ≡ parsed row → Err GencostMalformed ≡ gencost_read row
+  unfolding parsed gencost_read
+  read-malformed e = pick (malformed row) _ _ e
+    where
+      pick : (b : Bool) (n : Coefficients) (a : Answer) → None ≡ cond b None (Some n) → Err GencostMalformed ≡ ended (b refuses GencostMalformed) a
+      pick true n a z = refl
+      pick false n a z = absurd (let y : ◌≡◌ {A = ℕ} 0 1 = cc in omega arith)
+
+  pub read-refused : (o : Option Coefficients) {e : Refusal} → o ≡ parsed row → o ≡ None → ◌≡◌ {A = Result Coefficients Refusal} (Err e) (ok_or o GencostMalformed) → ◌≡◌ {A = Answer} (Err e) (gencost_read row)
+  read-refused None {e} p z v = let k : e ≡ GencostMalformed = cc in rw k (read-malformed p)
+  read-refused (Some n) p z v = absurd (let y : ◌≡◌ {A = ℕ} 0 1 = cc in omega arith)
+
+  pub read-parsed : {n : Coefficients} → Some n ≡ parsed row → judged n ≡ gencost_read row
+  unfolding parsed gencost_read
+  read-parsed {n} e = pick (malformed row) _ e ∙ ap (ended (malformed row refuses GencostMalformed)) (judged-given (decimal (word row 4)) (decimal (word row 5)) (decimal (word row 6)))
+    where
+      pick : (b : Bool) (m : Coefficients) → Some n ≡ cond b None (Some m) → judged n ≡ ended (b refuses GencostMalformed) (judged m)
+      pick true m z = absurd (let y : ◌≡◌ {A = ℕ} 0 1 = cc in omega arith)
+      pick false m z = let k : n ≡ m = cc in ap judged k

@@ -1,73 +1,87 @@
 -- The next word, taken as a number or as one character.
-use Prim.Native.Nat.{ℕ, ◌+◌, ◌-◌, ◌≤◌, ◌<◌}
+use Prim.Native.Nat.{ℕ, ◌+◌, ◌-◌}
 use native.Mathlib.Omega.{arith}
-use mathlib.Core.Bool.{Bool, true, false, cond}
-use mathlib.Core.Path.{◌≡◌, refl, sym, ap, ap₂, ◌∙◌}
+use mathlib.Core.Bool.{Bool, true, false, cond, and-false}
+use lib.Dec.{eqb}
+use mathlib.Core.Path.{◌≡◌, refl, sym, ap, ◌∙◌}
 use mathlib.Core.List.{List, [], ◌∷◌}
 use lib.ListN.{length, get_or, take, drop, length-drop}
-use lib.Seq.{get_or-drop, get_or-take, length-take-le}
+use lib.Seq.{take_all}
 use borrow.Author.Tests.{eq-eqb, ne_eqb}
-use Rattle.gencost.specs.declared.Class.{Class}
-use Rattle.gencost.specs.declared.Next.{Next}
+use Rattle.std.specs.Prelude.{Option, Some, None, IfNone, IfSome}
 use Rattle.gencost.specs.declared.Number.{Number}
-use Rattle.gencost.specs.declared.Scanned.{Scanned}
-use Rattle.gencost.specs.Row.{blank, some, word, decimal, only}
-use Rattle.gencost.specs.Clauses.{class_end, word_start, word_end, word_behind, valued, scanned, number_behind, only_behind, Behind}
+use Rattle.gencost.specs.Row.{blank, some, word, decimal, only, headed}
+use Rattle.gencost.specs.Clauses.{other, run, first_word, behind_word, valued, scanned, NumberFirst, OnlyFirst, last, Behind, HeadEnd}
 use Rattle.gencost.proofs.Grammar.{unformed-start}
-use Rattle.gencost.proofs.Words.{end-within, end-positive, solid-end, behind-word, behind-next}
+use Rattle.gencost.proofs.Words.{behind-none, behind-word, behind-next, behind-solid}
 
--- ---- what the functions give
+-- the word as it is cut out of the row, and what stands behind it
+module _ (row : List ℕ) {n k : ℕ} (e : n ≡ run blank row) (f : k ≡ run other (take (length row - n) (drop n row))) where
+  abbrev cut : List ℕ
+  cut = take (length row - n) (drop n row)
 
-module _ (row : List ℕ) (at : ℕ) (h : at ≤ length row) {from end : ℕ} (e : from ≡ class_end Class.Blank row at) (f : end ≡ class_end Class.Other row from) where
-  starts : from ≡ word_start row at
-  unfolding word_start
-  starts = e
+  cut_is : cut ≡ drop n row
+  cut_is = take_all (length row - n) (drop n row) (omega (arith, length-drop n row))
 
-  pub ends : end ≡ word_end row at
-  unfolding word_end
-  ends = f ∙ ap (class_end Class.Other row) starts
+  others : k ≡ run other (drop n row)
+  others = rw cut_is at f
 
-  pub part : take (end - from) (drop from row) ≡ word_behind row at
-  unfolding word_behind
-  part = ap₂ (λ (j k : ℕ). take (k - j) (drop j row)) starts ends
+  pub word_cut : {word : List ℕ} → word ≡ take k (take (length row - n) (drop n row)) → word ≡ first_word row
+  unfolding first_word
+  word_cut z = rw (z, cut_is, others, e) refl
 
-  long : length (word_behind row at) ≡ end - from
-  long = ap length (sym part) ∙ length-take-le (end - from) (drop from row) (omega (arith, ends, starts, end-within row at h, length-drop from row))
+  pub rest_cut : {rest : List ℕ} → rest ≡ drop k (take (length row - n) (drop n row)) → rest ≡ behind_word row
+  unfolding behind_word
+  rest_cut z = rw (z, cut_is, others, e) refl
 
-  first : end ≡ from + 1 → get_or (word_behind row at) 0 0 ≡ get_or row from 0
-  first l = let p : 0 < end - from = omega arith in ap (λ (w : List ℕ). get_or w 0 0) (sym part) ∙ get_or-take (end - from) (drop from row) 0 0 p ∙ get_or-drop from row 0 0 ∙ (let z : from + 0 ≡ from = omega arith in ap (λ (k : ℕ). get_or row k 0) z)
+pub ruleset taking_word = (word_cut, rest_cut)
 
-  module _ (c : ℕ) where
-    pub only-long : (end ≡ from + 1 → ⊥) → 0 ≡ only_behind c row at
-    unfolding only_behind
-    only-long z = rw (ne_eqb (length (word_behind row at)) 1 (λ k. z (omega (arith, long))))
+-- ---- a number
 
-    pub only-other : end ≡ from + 1 → (get_or row from 0 ≡ c → ⊥) → 0 ≡ only_behind c row at
-    unfolding only_behind
-    only-other l z = let one : length (word_behind row at) ≡ 1 = omega (arith, long) in rw (eq-eqb (length (word_behind row at)) 1 one, ne_eqb (get_or (word_behind row at) 0 0) c (λ k. z (sym (first l) ∙ k)))
+module _ (places limit : ℕ) (row : List ℕ) {word : List ℕ} (e : word ≡ first_word row) where
+  pub number-none : None ≡ scanned places limit word → (decimal (first_word row)).formed ≡ false
+  unfolding scanned
+  number-none f = pick (decimal (first_word row)).formed _ (f ∙ ap (scanned places limit) e)
+    where
+      pick : (t : Bool) (n : Number) → None ≡ cond t (Some n) None → t ≡ false
+      pick true n m = absurd (let z : ◌≡◌ {A = ℕ} 0 1 = cc in omega arith)
+      pick false n m = refl
 
-    pub only-is : end ≡ from + 1 → get_or row from 0 ≡ c → end ≡ only_behind c row at
-    unfolding only_behind
-    only-is l z = let one : length (word_behind row at) ≡ 1 = omega (arith, long) in rw (eq-eqb (length (word_behind row at)) 1 one, eq-eqb (get_or (word_behind row at) 0 0) c (first l ∙ z)) ends
+  pub number-some : {n : Number} {rest : List ℕ} → Some n ≡ scanned places limit word → rest ≡ behind_word row → NumberFirst places limit row n rest
+  unfolding scanned
+  number-some {n} f b = let p = pick (decimal (first_word row)).formed (valued places limit (decimal (first_word row))) (f ∙ ap (scanned places limit) e) in record { formed = p.0; value = p.1; behind = b }
+    where
+      pick : (t : Bool) (v : Number) → Some n ≡ cond t (Some v) None → (t ≡ true) × (n ≡ v)
+      pick true v m = (refl, cc)
+      pick false v m = absurd (let z : ◌≡◌ {A = ℕ} 0 1 = cc in omega arith)
 
-  module _ (places limit : ℕ) where
-    pub number-none : scanned places limit (take (end - from) (drop from row)) ≡ Scanned.Malformed → Next.Malformed ≡ number_behind places limit row at
-    unfolding number_behind scanned
-    number-none m = pick (decimal (word_behind row at)).formed refl (ap (scanned places limit) (sym part) ∙ m)
-      where
-        pick : (b : Bool) → (decimal (word_behind row at)).formed ≡ b → cond b (Scanned.Decimal (valued places limit (decimal (word_behind row at)))) Scanned.Malformed ≡ Scanned.Malformed → Next.Malformed ≡ cond b (Next.Number (valued places limit (decimal (word_behind row at))) (word_end row at)) Next.Malformed
-        pick false g k = refl
-        pick true g k = absurd (let z : ◌≡◌ {A = ℕ} 0 1 = cc in omega arith)
+pub ruleset taking_number = (number-none, number-some)
 
-    pub number-some : {n : Number} → scanned places limit (take (end - from) (drop from row)) ≡ Scanned.Decimal n → Next.Number n end ≡ number_behind places limit row at
-    unfolding number_behind scanned
-    number-some {n} m = pick (decimal (word_behind row at)).formed (ap (scanned places limit) (sym part) ∙ m)
-      where
-        pick : (b : Bool) → cond b (Scanned.Decimal (valued places limit (decimal (word_behind row at)))) Scanned.Malformed ≡ Scanned.Decimal n → Next.Number n end ≡ cond b (Next.Number (valued places limit (decimal (word_behind row at))) (word_end row at)) Next.Malformed
-        pick true k = let v : n ≡ valued places limit (decimal (word_behind row at)) = cc in ap₂ Next.Number v ends
-        pick false k = absurd (let z : ◌≡◌ {A = ℕ} 0 1 = cc in omega arith)
+-- ---- an answer by what another function answered
 
--- ---- what a caller learns, at a place with so many words behind
+pub if-none : {X P Q : Type 0} (o : Option X) → (P → Q) → IfNone o P → IfNone o Q
+if-none None f p = f p
+if-none (Some x) f p = tt
+
+pub if-some : {X : Type 0} {P Q : X → Type 0} (o : Option X) → ((x : X) → P x → Q x) → IfSome o P → IfSome o Q
+if-some None f p = tt
+if-some (Some x) f p = f x p
+
+-- ---- one character
+
+module _ (c : ℕ) (w : List ℕ) where
+  pub only-long : (length w ≡ 1 → ⊥) → only c w ≡ false
+  only-long z = rw (ne_eqb (length w) 1 z)
+
+  pub only-other : (get_or w 0 0 ≡ c → ⊥) → only c w ≡ false
+  only-other z = rw (ne_eqb (get_or w 0 0) c z, and-false (eqb (length w) 1))
+
+  pub only-is : length w ≡ 1 → get_or w 0 0 ≡ c → only c w ≡ true
+  only-is l z = rw (eq-eqb (length w) 1 l, eq-eqb (get_or w 0 0) c z)
+
+pub ruleset taking_one = (only-long, only-other, only-is)
+
+-- ---- what a caller learns, with so many words before the rest
 
 some-formed : (w : List ℕ) → (decimal w).formed ≡ true → some w ≡ true
 some-formed [] e = absurd (let z : ◌≡◌ {A = ℕ} 0 1 = cc (unformed-start [] tt) in omega arith)
@@ -77,54 +91,61 @@ some-only : (c : ℕ) (w : List ℕ) → only c w ≡ true → some w ≡ true
 some-only c [] e = e
 some-only c (x ∷ w) e = refl
 
-pub record Took (row : List ℕ) (k places limit : ℕ) (n : Number) (end : ℕ) : Type 0 where
+pub record Took (row : List ℕ) (k places limit : ℕ) (n : Number) (rest : List ℕ) : Type 0 where
   pub formed : (decimal (word row k)).formed ≡ true
   pub value : n ≡ valued places limit (decimal (word row k))
-  pub behind : Behind row (k + 1) end
-  pub solid : blank (get_or row (end - 1) 32) ≡ false
+  pub behind : Behind row (k + 1) rest
+  pub solid : length rest ≡ 0 → blank (last row) ≡ false
 
-module _ (row : List ℕ) {k at : ℕ} (b : Behind row k at) where
-  same : decimal (word row k) ≡ decimal (word_behind row at)
+module _ (row : List ℕ) {k : ℕ} {from : List ℕ} (b : Behind row k from) where
+  same : decimal (word row k) ≡ decimal (first_word from)
   same = ap decimal (behind-word row b)
 
-  module _ (places limit : ℕ) where
-    pub took : {n : Number} {end : ℕ} → number_behind places limit row at ≡ Next.Number n end → Took row k places limit n end
-    unfolding number_behind
-    took {n} {end} e = pick (decimal (word_behind row at)).formed refl e
-      where
-        pick : (t : Bool) → (decimal (word_behind row at)).formed ≡ t → cond t (Next.Number (valued places limit (decimal (word_behind row at))) (word_end row at)) Next.Malformed ≡ Next.Number n end → Took row k places limit n end
-        pick true g m =
-            let v : n ≡ valued places limit (decimal (word_behind row at)) = cc in
-            let z : end ≡ word_end row at = cc in
-            let s = some-formed (word_behind row at) g in
-            record {
-              formed = ap (λ d. d.formed) same ∙ g;
-              value = v ∙ ap (valued places limit) (sym same);
-              behind = rw z (behind-next row b s);
-              solid = rw z (solid-end row at s);
-            }
-        pick false g m = absurd (let z : ◌≡◌ {A = ℕ} 0 1 = cc in omega arith)
+  pub took : {places limit : ℕ} {n : Number} {rest : List ℕ} → NumberFirst places limit from n rest → Took row k places limit n rest
+  took {places} {limit} f =
+      let s = some-formed (first_word from) f.formed in
+      rw f.behind (record {
+        formed = ap (λ d. d.formed) same ∙ f.formed;
+        value = f.value ∙ ap (valued places limit) (sym same);
+        behind = behind-next row b s;
+        solid = behind-solid row b s;
+      })
 
-    pub took-none : number_behind places limit row at ≡ Next.Malformed → (decimal (word row k)).formed ≡ false
-    unfolding number_behind
-    took-none e = ap (λ d. d.formed) same ∙ pick (decimal (word_behind row at)).formed e
-      where
-        pick : (t : Bool) → cond t (Next.Number (valued places limit (decimal (word_behind row at))) (word_end row at)) Next.Malformed ≡ Next.Malformed → t ≡ false
-        pick true m = absurd (let z : ◌≡◌ {A = ℕ} 0 1 = cc in omega arith)
-        pick false m = refl
+  pub took-none : (decimal (first_word from)).formed ≡ false → (decimal (word row k)).formed ≡ false
+  took-none e = ap (λ d. d.formed) same ∙ e
 
-  module _ (c : ℕ) {end : ℕ} (e : end ≡ only_behind c row at) where
-    by_word : {P : Type 0} → (only c (word_behind row at) ≡ true → end ≡ word_end row at → P) → (only c (word_behind row at) ≡ false → end ≡ 0 → P) → P
-    unfolding only_behind
-    by_word {P} y n = pick (only c (word_behind row at)) refl e
-      where
-        pick : (t : Bool) → only c (word_behind row at) ≡ t → end ≡ cond t (word_end row at) 0 → P
-        pick true g m = y g m
-        pick false g m = n g m
+  pub only-took : {c : ℕ} {rest : List ℕ} → OnlyFirst c from rest → (only c (word row k) ≡ true) × Behind row (k + 1) rest
+  only-took {c} o = (ap (only c) (behind-word row b) ∙ o.only, rw o.behind (behind-next row b (some-only c (first_word from) o.only)))
 
-    pub only-took : (end ≡ 0 → ⊥) → (only c (word row k) ≡ true) × Behind row (k + 1) end
-    only-took z = by_word (λ g m. (ap (only c) (behind-word row b) ∙ g, rw m (behind-next row b (some-only c (word_behind row at) g)))) (λ g m. absurd (z m))
+  pub only_none : (c : ℕ) → only c (first_word from) ≡ false → only c (word row k) ≡ false
+  only_none c e = ap (only c) (behind-word row b) ∙ e
 
-    pub only_none : end ≡ 0 → only c (word row k) ≡ false
-    only_none z =
-        by_word (λ g m. absurd (let p = (end-positive row at (some-only c (word_behind row at) g)).1 in omega arith)) (λ g m. ap (only c) (behind-word row b) ∙ g)
+-- ---- the first four words
+
+module _ (row : List ℕ) where
+  pub head-none : only 50 (first_word row) ≡ false → headed row ≡ false
+  head-none e = rw (only_none row (behind-none row) 50 e)
+
+  module _ {first : List ℕ} (e : OnlyFirst 50 row first) where
+    one : (only 50 (word row 0) ≡ true) × Behind row 1 first
+    one = only-took row (behind-none row) e
+
+    pub head-no-startup : (decimal (first_word first)).formed ≡ false → headed row ≡ false
+    head-no-startup f = rw (one.0, took-none row one.1 f)
+
+    module _ {startup : Number} {second : List ℕ} (f : NumberFirst 0 0 first startup second) where
+      two : Took row 1 0 0 startup second
+      two = took row one.1 f
+
+      pub head-no-shutdown : (decimal (first_word second)).formed ≡ false → headed row ≡ false
+      head-no-shutdown g = rw (one.0, two.formed, took-none row two.behind g)
+
+      module _ {shutdown : Number} {third : List ℕ} (g : NumberFirst 0 0 second shutdown third) where
+        three : Took row 2 0 0 shutdown third
+        three = took row two.behind g
+
+        pub head-no-fourth : only 51 (first_word third) ≡ false → headed row ≡ false
+        head-no-fourth h = rw (one.0, two.formed, three.formed, only_none row three.behind 51 h)
+
+        pub head-ends : {rest : List ℕ} → OnlyFirst 51 third rest → HeadEnd row rest
+        head-ends h = let four = only-took row three.behind h in record { headed = rw (one.0, two.formed, three.formed, four.0); behind = four.1 }

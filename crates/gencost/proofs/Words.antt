@@ -2,8 +2,8 @@
 use Prim.Native.Nat.{ℕ, zero, suc, ◌+◌, ◌-◌, ◌≤◌, ◌<◌}
 use native.Mathlib.Nat.{add-zero}
 use native.Mathlib.Omega.{arith}
-use mathlib.Core.Bool.{Bool, true, false, cond, not}
-use mathlib.Core.Path.{◌≡◌, refl, sym, ap, ap₂, ◌∙◌}
+use mathlib.Core.Bool.{Bool, true, false, cond}
+use mathlib.Core.Path.{◌≡◌, refl, sym, ap, ◌∙◌}
 use mathlib.Core.List.{List, [], ◌∷◌, ◌++◌, append-nil}
 use lib.ListN.{length, get_or, take, drop, take-append-drop, length-drop}
 use lib.Seq.{drop-drop, get_or-drop, get_or-take, length-take-le}
@@ -11,12 +11,9 @@ use borrow.Author.Tests.{not-true, not-false}
 use Rattle.rules.specs.Lists.{Every, filter}
 use Rattle.rules.proofs.Lists.{every-at}
 use Rattle.gencost.specs.Row.{blank, onto, pieces, some, words, word}
-use Rattle.gencost.specs.Clauses.{run, word_start, word_end, word_behind, Behind}
+use Rattle.gencost.specs.Clauses.{other, run, first_word, behind_word, last, Behind}
 use Rattle.gencost.proofs.Runs.{Stops, run-passes, run-stops, run-within}
 use Rattle.gencost.proofs.Grammar.{pieces-one, pieces-parted}
-
-abbrev pub other : ℕ → Bool
-other c = not (blank c)
 
 others_no_blank : (w : List ℕ) → Every (λ c. other c ≡ true) w → Every (λ c. blank c ≡ false) w
 others_no_blank [] h = tt
@@ -70,100 +67,86 @@ pub positive : (w : List ℕ) → some w ≡ true → 0 < length w
 positive [] f = absurd (let z : ◌≡◌ {A = ℕ} 0 1 = cc in omega arith)
 positive (c ∷ w) f = omega arith
 
-module _ (row : List ℕ) (at : ℕ) where
-  pub left : List ℕ
-  left = drop (word_start row at) row
+last-drop : (n : ℕ) (s : List ℕ) → 0 < length (drop n s) → last (drop n s) ≡ last s
+last-drop n s h =
+    let place : n + (length (drop n s) - 1) ≡ length s - 1 = omega (arith, length-drop n s) in
+    get_or-drop n s (length (drop n s) - 1) 32 ∙ ap (λ (k : ℕ). get_or s k 32) place
 
-  pub reach : ℕ
+module _ (row : List ℕ) where
+  abbrev left : List ℕ
+  left = drop (run blank row) row
+
+  abbrev reach : ℕ
   reach = run other left
 
-  left_is : left ≡ drop (run blank (drop at row)) (drop at row)
-  unfolding left word_start
-  left_is = sym (drop-drop (run blank (drop at row)) at row)
+  skipped : words row ≡ words left
+  skipped = let b = run blank row in ap words (sym (take-append-drop b row)) ∙ words-blanks (take b row) left (run-passes blank row)
 
-  skipped : words (drop at row) ≡ words left
-  skipped =
-      let s = drop at row in
-      let b = run blank s in
-      ap words (sym (take-append-drop b s)) ∙ words-blanks (take b s) (drop b s) (run-passes blank s) ∙ ap words (sym left_is)
-
-  end_is : word_end row at ≡ word_start row at + reach
-  unfolding reach left word_end
-  end_is = refl
-
-  word-is : word_behind row at ≡ take reach left
-  unfolding word_behind left
-  word-is = let e : word_end row at - word_start row at ≡ reach = omega (arith, end_is) in ap (λ (k : ℕ). take k left) e
-
-  behind-is : drop (word_end row at) row ≡ drop reach left
-  unfolding left
-  behind-is = ap (λ (k : ℕ). drop k row) end_is ∙ sym (drop-drop reach (word_start row at) row)
-
-  pub start-within : at ≤ length row → word_start row at ≤ length row
-  unfolding word_start
-  start-within h = omega (arith, run-within blank (drop at row), length-drop at row)
-
-  pub end-within : at ≤ length row → word_end row at ≤ length row
-  unfolding reach left
-  end-within h = omega (arith, end_is, start-within h, run-within other left, length-drop (word_start row at) row)
-
-  -- it is the first of those left, and the others are behind its end
-  pub next-some : some (word_behind row at) ≡ true → words (drop at row) ≡ word_behind row at ∷ words (drop (word_end row at) row)
-  unfolding reach
-  next-some s =
-      skipped ∙ ap words (sym (take-append-drop reach left))
-      ∙ words-first (take reach left) (drop reach left) (rw word-is at s) (run-passes other left) (run-stops other left)
-      ∙ ap₂ (λ (w : List ℕ) (ws : List (List ℕ)). w ∷ ws) (sym word-is) (ap words (sym behind-is))
+  -- it is the first of the words, and the others are behind it
+  pub next-some : some (first_word row) ≡ true → words row ≡ first_word row ∷ words (behind_word row)
+  unfolding first_word behind_word
+  next-some s = skipped ∙ ap words (sym (take-append-drop reach left)) ∙ words-first (take reach left) (drop reach left) s (run-passes other left) (run-stops other left)
 
   -- or there is none
-  pub next-none : some (word_behind row at) ≡ false → words (drop at row) ≡ []
-  unfolding reach
+  pub next-none : some (first_word row) ≡ false → words row ≡ []
+  unfolding first_word
   next-none e =
-      let z : reach ≡ 0 = omega (arith, length-take-le reach left (run-within other left), ap length word-is, none (word_behind row at) e) in
-      skipped ∙ words-none left (rw left_is (run-stops blank (drop at row))) (rw z at (run-stops other left))
+      let z : reach ≡ 0 = omega (arith, length-take-le reach left (run-within other left), none (take reach left) e) in
+      skipped ∙ words-none left (run-stops blank row) (rw z at (run-stops other left))
     where
       none : (w : List ℕ) → some w ≡ false → length w ≡ 0
       none [] f = refl
       none (c ∷ w) f = absurd (let z : ◌≡◌ {A = ℕ} 0 1 = cc in omega arith)
 
-  pub end-positive : some (word_behind row at) ≡ true → (0 < reach) × (0 < word_end row at)
-  unfolding reach
-  end-positive s =
-      let one : 0 < reach = omega (arith, ap length word-is, length-take-le reach left (run-within other left), positive (word_behind row at) s) in
-      (one, omega (arith, end_is))
+  reach-positive : some (first_word row) ≡ true → 0 < reach
+  unfolding first_word
+  reach-positive s = omega (arith, length-take-le reach left (run-within other left), positive (take reach left) s)
 
-  -- the character before its end is no blank
-  pub solid-end : some (word_behind row at) ≡ true → blank (get_or row (word_end row at - 1) 32) ≡ false
-  unfolding reach left
-  solid-end s =
-      let one : 0 < reach = (end-positive s).0 in
-      let here : get_or (take reach left) (reach - 1) 32 ≡ get_or row (word_end row at - 1) 32 = get_or-take reach left (reach - 1) 32 (omega arith) ∙ get_or-drop (word_start row at) row (reach - 1) 32 ∙ ap (λ (k : ℕ). get_or row k 32) (place one) in
-      not-true (blank (get_or row (word_end row at - 1) 32)) (rw here at (every-at (λ c. other c ≡ true) (take reach left) (reach - 1) 32 (run-passes other left) (omega (arith, length-take-le reach left (run-within other left)))))
-    where
-      place : 0 < reach → word_start row at + (reach - 1) ≡ word_end row at - 1
-      place one = omega (arith, end_is)
+  pub some-length : some (first_word row) ≡ true → 0 < length row
+  some-length s = omega (arith, reach-positive s, run-within other left, length-drop (run blank row) row)
+
+  pub behind-length : length (behind_word row) ≤ length row
+  unfolding behind_word
+  behind-length = omega (arith, length-drop reach left, length-drop (run blank row) row)
+
+  -- what stands behind it ends as the row does
+  pub behind-last : 0 < length (behind_word row) → last (behind_word row) ≡ last row
+  unfolding behind_word
+  behind-last h = last-drop reach left h ∙ last-drop (run blank row) row (omega (arith, h, length-drop reach left))
+
+  -- if nothing does, the last character is no blank
+  pub solid-end : some (first_word row) ≡ true → length (behind_word row) ≡ 0 → blank (last row) ≡ false
+  unfolding behind_word
+  solid-end s z =
+      let one : 0 < reach = reach-positive s in
+      let all : reach ≡ length left = omega (arith, z, length-drop reach left, run-within other left) in
+      let here : get_or (take reach left) (reach - 1) 32 ≡ last row = get_or-take reach left (reach - 1) 32 (omega arith) ∙ ap (λ (k : ℕ). get_or left (k - 1) 32) all ∙ last-drop (run blank row) row (omega arith) in
+      not-true (blank (last row)) (rw here at (every-at (λ c. other c ≡ true) (take reach left) (reach - 1) 32 (run-passes other left) (omega (arith, length-take-le reach left (run-within other left)))))
 
 -- ---- the word of a number, and what is behind it
 
 module _ (row : List ℕ) where
-  pub behind-none : Behind row 0 0
-  behind-none = record { within = omega arith; count = omega arith; rest = refl }
+  pub behind-none : Behind row 0 row
+  behind-none = record { count = omega arith; words = refl; ending = λ h. refl }
 
-  module _ {k at : ℕ} (b : Behind row k at) where
-    pub behind-word : word row k ≡ word_behind row at
+  module _ {k : ℕ} {rest : List ℕ} (b : Behind row k rest) where
+    pub behind-word : word row k ≡ first_word rest
     behind-word =
-        let first : word row k ≡ get_or (words (drop at row)) 0 [] = ap (λ (j : ℕ). get_or (words row) j []) (sym (add-zero k)) ∙ sym (get_or-drop k (words row) 0 []) ∙ ap (λ (ws : List (List ℕ)). get_or ws 0 []) b.rest in
-        first ∙ pick (word_behind row at) refl
+        let first : word row k ≡ get_or (words rest) 0 [] = ap (λ (j : ℕ). get_or (words row) j []) (sym (add-zero k)) ∙ sym (get_or-drop k (words row) 0 []) ∙ ap (λ (ws : List (List ℕ)). get_or ws 0 []) b.words in
+        first ∙ pick (first_word rest) refl
       where
-        pick : (w : List ℕ) → word_behind row at ≡ w → get_or (words (drop at row)) 0 [] ≡ word_behind row at
-        pick [] e = ap (λ (ws : List (List ℕ)). get_or ws 0 []) (next-none row at (ap some e)) ∙ sym e
-        pick (c ∷ w) e = ap (λ (ws : List (List ℕ)). get_or ws 0 []) (next-some row at (ap some e))
+        pick : (w : List ℕ) → first_word rest ≡ w → get_or (words rest) 0 [] ≡ first_word rest
+        pick [] e = ap (λ (ws : List (List ℕ)). get_or ws 0 []) (next-none rest (ap some e)) ∙ sym e
+        pick (c ∷ w) e = ap (λ (ws : List (List ℕ)). get_or ws 0 []) (next-some rest (ap some e))
 
-    pub behind-next : some (word_behind row at) ≡ true → Behind row (k + 1) (word_end row at)
+    pub behind-next : some (first_word rest) ≡ true → Behind row (k + 1) (behind_word rest)
     behind-next s =
-        let e : drop k (words row) ≡ word_behind row at ∷ words (drop (word_end row at) row) = b.rest ∙ next-some row at s in
+        let e : drop k (words row) ≡ first_word rest ∷ words (behind_word rest) = b.words ∙ next-some rest s in
         record {
-          within = end-within row at b.within;
           count = omega (arith, ap length e, length-drop k (words row));
-          rest = sym (drop-drop 1 k (words row)) ∙ ap (drop 1) e;
+          words = sym (drop-drop 1 k (words row)) ∙ ap (drop 1) e;
+          ending = λ h. behind-last rest h ∙ b.ending (omega (arith, h, behind-length rest));
         }
+
+    pub behind-solid : some (first_word rest) ≡ true → length (behind_word rest) ≡ 0 → blank (last row) ≡ false
+    behind-solid s z = ap blank (sym (b.ending (some-length rest s))) ∙ solid-end rest s z

@@ -1,22 +1,21 @@
 -- Rules 25.1 to 25.7 of docs/SPECIFICATION.md: rows of text and what each gives. Above each row stands the wrong rule that it shows.
 use Prim.Native.Char.{code}
-use Rattle.std.specs.Prelude.{ℕ, List, [], ◌∷◌, ◌++◌, refl}
+use Rattle.std.specs.Prelude.{ℕ, List, [], ◌∷◌, ◌++◌, refl, Ok, Err}
 use Prim.Native.String.{String}
 use Prim.Native.String as string
 use Rattle.rules.specs.Refusal.{number_of}
 use Rattle.rules.specs.TableRows.{Row, Holds}
-use Rattle.gencost.specs.declared.Costs.{Costs}
 use Rattle.gencost.specs.Claims.{zeros}
-use Rattle.gencost.specs.Row.{words, tight, decimal, malformed, given, gencost_read}
+use Rattle.gencost.specs.Row.{words, tight, decimal, malformed, given, Answer, gencost_read}
 
 pub data Result : Type 0 where
   -- c2, c1 and c0
   reads : ℕ → ℕ → ℕ → Result
   refuses : ℕ → Result
 
-abbrev pub of_costs : Costs → Result
-of_costs (Costs.Read c2 c1 c0) = reads c2 c1 c0
-of_costs (Costs.Refused r) = refuses (number_of r)
+abbrev pub of_costs : Answer → Result
+of_costs (Ok costs) = reads costs.c2 costs.c1 costs.c0
+of_costs (Err r) = refuses (number_of r)
 
 unfoldable pub answer : List ℕ → Result
 unfolding words tight decimal malformed given gencost_read

@@ -1,11 +1,10 @@
 -- Rules 25.8 to 25.12 of docs/SPECIFICATION.md: what holds of every row, as statements. (They are proved in proofs/Claims.)
-use Rattle.std.specs.Prelude.{ℕ, zero, suc, ◌+◌, ◌*◌, ◌/◌, ◌%◌, ◌^◌, ◌≤◌, true, false, List, [], ◌∷◌, ◌++◌, ◌↔◌, ◌≡◌, ltb, length, get_or, take, drop, replicate}
+use Rattle.std.specs.Prelude.{ℕ, zero, suc, ◌+◌, ◌*◌, ◌/◌, ◌%◌, ◌^◌, ◌≤◌, true, false, List, [], ◌∷◌, ◌++◌, ◌↔◌, ◌≡◌, ltb, length, get_or, take, drop, replicate, Ok, Err}
 use Rattle.rules.specs.Lists.{Every}
 use Rattle.rules.specs.Refusal.{coefficient_out_of_range}
 use Rattle.rules.specs.Unit.{Unit}
 use Rattle.rules.specs.declared.Refusal.TheVariants.{GencostMalformed}
-use Rattle.gencost.specs.declared.Costs.{Costs}
-use Rattle.gencost.specs.Row.{blank, some, words, word, Decimal, decimal}
+use Rattle.gencost.specs.Row.{blank, some, words, word, Decimal, decimal, Answer}
 use Rattle.gencost.specs.Clauses.{Digits}
 
 -- ---- (rule 25.8) what is read is exact: the number times its factor
@@ -13,16 +12,16 @@ use Rattle.gencost.specs.Clauses.{Digits}
 abbrev pub Exact : ℕ → Decimal → ℕ → Type 0
 Exact factor d result = result * 10 ^ d.decimals ≡ d.digits * factor
 
-abbrev pub ReadExactly : (List ℕ → Costs) → Type 0
+abbrev pub ReadExactly : (List ℕ → Answer) → Type 0
 ReadExactly call =
     (row : List ℕ) (c2 c1 c0 : ℕ)
-    → call row ≡ Costs.Read c2 c1 c0
+    → call row ≡ Ok (record { c2 = c2; c1 = c1; c0 = c0 })
     → Exact 10000 (decimal (word row 4)) c2 × Exact 100000 (decimal (word row 5)) c1 × Exact 1000000 (decimal (word row 6)) c0
 
 -- ---- (rule 25.9) a unit with what is read never meets 8 by its cost coefficients
 
-abbrev pub NeverEight : (List ℕ → Costs) → Type 0
-NeverEight call = (row : List ℕ) (u : Unit) → call row ≡ Costs.Read u.c2 u.c1 u.c0 → coefficient_out_of_range u ≡ ltb 5000 u.b
+abbrev pub NeverEight : (List ℕ → Answer) → Type 0
+NeverEight call = (row : List ℕ) (u : Unit) → call row ≡ Ok (record { c2 = u.c2; c1 = u.c1; c0 = u.c0 }) → coefficient_out_of_range u ≡ ltb 5000 u.b
 
 -- ---- (rule 25.10) 26 is given exactly where the row is not of the form
 
@@ -55,8 +54,8 @@ pub record Form (row : List ℕ) : Type 0 where
   pub made : Spaced ((50 ∷ []) ∷ startup ∷ shutdown ∷ (51 ∷ []) ∷ square ∷ linear ∷ constant ∷ []) row
   pub short : length row ≤ 256
 
-abbrev pub MalformedExactly : (List ℕ → Costs) → Type 0
-MalformedExactly call = (row : List ℕ) → (call row ≡ Costs.Refused GencostMalformed) ↔ (Form row → ⊥)
+abbrev pub MalformedExactly : (List ℕ → Answer) → Type 0
+MalformedExactly call = (row : List ℕ) → (call row ≡ Err GencostMalformed) ↔ (Form row → ⊥)
 
 -- the words of such a row are those that the definition takes, so that `word row 4` is its square coefficient
 abbrev pub WordsAreThose : Type 0
@@ -80,7 +79,7 @@ pub record SameWords (ws vs : List (List ℕ)) : Type 0 where
   pub constant : Alike (get_or ws 6 []) (get_or vs 6 [])
 
 -- so gaps may be of any blanks, startup and shutdown of any value, and the coefficients written in any way
-abbrev pub OneAnswer : (List ℕ → Costs) → Type 0
+abbrev pub OneAnswer : (List ℕ → Answer) → Type 0
 OneAnswer call =
     (ws vs : List (List ℕ)) (row other : List ℕ)
     → Spaced ws row
@@ -118,5 +117,5 @@ abbrev pub row_of : ℕ → ℕ → ℕ → List ℕ
 row_of c2 c1 c0 =
     50 ∷ 32 ∷ 48 ∷ 32 ∷ 48 ∷ 32 ∷ 51 ∷ 32 ∷ (decimal_of 1 4 c2 ++ 32 ∷ (decimal_of 3 5 c1 ++ 32 ∷ decimal_of 4 6 c0))
 
-abbrev pub EachHasARow : (List ℕ → Costs) → Type 0
-EachHasARow call = (c2 c1 c0 : ℕ) → c2 ≤ 1000 → c1 ≤ 10000000 → c0 ≤ 1000000000 → call (row_of c2 c1 c0) ≡ Costs.Read c2 c1 c0
+abbrev pub EachHasARow : (List ℕ → Answer) → Type 0
+EachHasARow call = (c2 c1 c0 : ℕ) → c2 ≤ 1000 → c1 ≤ 10000000 → c0 ≤ 1000000000 → call (row_of c2 c1 c0) ≡ Ok (record { c2 = c2; c1 = c1; c0 = c0 })

@@ -1,41 +1,28 @@
 -- What the functions that read a row give, each equated with a definition.
-use Rattle.std.specs.Prelude.{ℕ, suc, ◌+◌, ◌-◌, ◌^◌, ◌≤◌, Bool, cond, not, ◌&&◌, ◌||◌, List, [], ◌∷◌, ◌≡◌, ltb, eqb, length, take, drop}
+use Rattle.std.specs.Prelude.{ℕ, ◌+◌, ◌-◌, ◌^◌, ◌≤◌, ◌<◌, Bool, cond, not, ◌&&◌, ◌||◌, List, ◌≡◌, Option, Some, None, Ok, ltb, length, get_or, take, drop}
+use Rattle.std.specs.List.{prefix_len}
 use Rattle.rules.specs.Lists.{Every}
 use Rattle.rules.specs.Refusal.{◌refuses◌, ◌then◌}
 use Rattle.rules.specs.declared.Refusal.TheVariants.{GencostNotWhole, GencostAboveLimit}
-use Rattle.gencost.specs.declared.Class.{Class}
-use Rattle.gencost.specs.declared.Costs.{Costs}
-use Rattle.gencost.specs.declared.Next.{Next}
+use Rattle.gencost.specs.declared.Coefficients.{Coefficients}
 use Rattle.gencost.specs.declared.Number.{Number}
-use Rattle.gencost.specs.declared.Scanned.{Scanned}
-use Rattle.gencost.specs.Row.{blank, digit, words, whole, scaled, Decimal, decimal, only, headed, ended}
+use Rattle.gencost.specs.Row.{blank, digit, words, whole, scaled, Decimal, decimal, word, only, headed, malformed, Answer, ended}
 
--- ---- places
+-- ---- words
 
-abbrev pub passes : Class → ℕ → Bool
-passes Class.Blank c = blank c
-passes Class.Other c = not (blank c)
-passes Class.Digit c = digit c
-passes Class.Zero c = eqb c 48
+abbrev pub other : ℕ → Bool
+other c = not (blank c)
 
 -- how many characters at the start pass a test
 abbrev pub run : (ℕ → Bool) → List ℕ → ℕ
-run test [] = 0
-run test (c ∷ cs) = cond (test c) (suc (run test cs)) 0
+run test text = prefix_len test text
 
--- the first place from one on whose character is not of a class, or the end
-abbrev pub class_end : Class → List ℕ → ℕ → ℕ
-class_end class text at = at + run (passes class) (drop at text)
+-- the next word of a row's rest, behind its blanks (no characters if there is none), and what stands behind it
+unfoldable pub first_word : List ℕ → List ℕ
+first_word row = let words = drop (run blank row) row in take (run other words) words
 
--- where the next word behind a place starts and ends (at the text's end if there is none), and the word
-unfoldable pub word_start : List ℕ → ℕ → ℕ
-word_start row at = class_end Class.Blank row at
-
-unfoldable pub word_end : List ℕ → ℕ → ℕ
-word_end row at = class_end Class.Other row (word_start row at)
-
-unfoldable pub word_behind : List ℕ → ℕ → List ℕ
-word_behind row at = take (word_end row at - word_start row at) (drop (word_start row at) row)
+unfoldable pub behind_word : List ℕ → List ℕ
+behind_word row = let words = drop (run blank row) row in drop (run other words) words
 
 -- ---- numbers
 
@@ -50,38 +37,50 @@ held limit n = cond (ltb limit n) (limit + 1) n
 unfoldable pub valued : ℕ → ℕ → Decimal → Number
 valued places limit d = record { result = held limit (scaled (10 ^ places) d); whole = whole (10 ^ places) d }
 
-unfoldable pub scanned : ℕ → ℕ → List ℕ → Scanned
-scanned places limit w = cond (decimal w).formed (Scanned.Decimal (valued places limit (decimal w))) Scanned.Malformed
+unfoldable pub scanned : ℕ → ℕ → List ℕ → Option Number
+scanned places limit w = cond (decimal w).formed (Some (valued places limit (decimal w))) None
 
-unfoldable pub number_behind : ℕ → ℕ → List ℕ → ℕ → Next
-number_behind places limit row at =
-    let d = decimal (word_behind row at) in
-    cond d.formed (Next.Number (valued places limit d) (word_end row at)) Next.Malformed
+-- what a row's rest starts with, and what stands behind it: a number; the one character c
+pub record NumberFirst (places limit : ℕ) (row : List ℕ) (n : Number) (rest : List ℕ) : Type 0 where
+  pub formed : (decimal (first_word row)).formed ≡ Bool.true
+  pub value : n ≡ valued places limit (decimal (first_word row))
+  pub behind : rest ≡ behind_word row
 
-unfoldable pub only_behind : ℕ → List ℕ → ℕ → ℕ
-only_behind c row at = cond (only c (word_behind row at)) (word_end row at) 0
-
--- factors have up to 6 zeros, limits are up to 1,000,000,000
-pub record Small (places limit : ℕ) : Type 0 where
-  pub zeros : places ≤ 6
-  pub most : limit ≤ 1000000000
+pub record OnlyFirst (c : ℕ) (row rest : List ℕ) : Type 0 where
+  pub only : only c (first_word row) ≡ Bool.true
+  pub behind : rest ≡ behind_word row
 
 -- ---- the row
 
--- at a place, so many of the row's words are behind
-pub record Behind (row : List ℕ) (k at : ℕ) : Type 0 where
-  pub within : at ≤ length row
-  pub count : k ≤ length (words row)
-  pub rest : drop k (words row) ≡ words (drop at row)
+-- the last character, or a blank if there is none
+abbrev pub last : List ℕ → ℕ
+last text = get_or text (length text - 1) 32
 
--- a place behind `2`, startup, shutdown and `3`, or 0
-abbrev pub HeadEnd : List ℕ → ℕ → Type 0
-HeadEnd row end = (end ≡ 0 → headed row ≡ Bool.false) × ((end ≡ 0 → ⊥) → (headed row ≡ Bool.true) × Behind row 4 end)
+-- behind so many of its words, a row has this rest
+pub record Behind (row : List ℕ) (k : ℕ) (rest : List ℕ) : Type 0 where
+  pub count : k ≤ length (words row)
+  pub words : drop k (words row) ≡ words rest
+  pub ending : 0 < length rest → last rest ≡ last row
+
+-- `2`, startup, shutdown and `3` are well formed, and this stands behind them
+pub record HeadEnd (row rest : List ℕ) : Type 0 where
+  pub headed : headed row ≡ Bool.true
+  pub behind : Behind row 4 rest
+
+-- the numbers of a row that is well formed
+unfoldable pub parsed : List ℕ → Option Coefficients
+parsed row =
+    let numbers : Coefficients = record {
+      square = valued 4 1000 (decimal (word row 4));
+      linear = valued 5 10000000 (decimal (word row 5));
+      constant = valued 6 1000000000 (decimal (word row 6));
+    } in
+    cond (malformed row) None (Some numbers)
 
 -- as `given`, of numbers up to their limits
-unfoldable pub judged : Number → Number → Number → Costs
-judged square linear constant =
+unfoldable pub judged : Coefficients → Answer
+judged n =
     ended
-    (not (square.whole && linear.whole && constant.whole) refuses GencostNotWhole
-    then (ltb 1000 square.result || ltb 10000000 linear.result || ltb 1000000000 constant.result) refuses GencostAboveLimit)
-    (Costs.Read square.result linear.result constant.result)
+    (not (n.square.whole && n.linear.whole && n.constant.whole) refuses GencostNotWhole
+    then (ltb 1000 n.square.result || ltb 10000000 n.linear.result || ltb 1000000000 n.constant.result) refuses GencostAboveLimit)
+    (Ok (record { c2 = n.square.result; c1 = n.linear.result; c0 = n.constant.result }))

@@ -1,9 +1,10 @@
 -- Rules 25.1 to 25.7 of docs/SPECIFICATION.md: a row of a MATPOWER `gencost` matrix, as text, and the cost coefficients that it gives. Characters are bytes, by their ASCII codes.
-use Rattle.std.specs.Prelude.{ℕ, ◌+◌, ◌-◌, ◌*◌, ◌/◌, ◌%◌, ◌^◌, Bool, true, false, cond, not, ◌&&◌, ◌||◌, List, [], ◌∷◌, ◌++◌, ltb, leb, eqb, length, get_or}
+use Rattle.std.specs.Prelude.{ℕ, ◌+◌, ◌-◌, ◌*◌, ◌/◌, ◌%◌, ◌^◌, Bool, true, false, cond, not, ◌&&◌, ◌||◌, List, [], ◌∷◌, ◌++◌, Result, Ok, Err, ltb, leb, eqb, length, get_or}
 use Rattle.rules.specs.Lists.{all, filter}
 use Rattle.rules.specs.Refusal.{◌refuses◌, ◌then◌}
+use Rattle.rules.specs.declared.Refusal.{Refusal}
 use Rattle.rules.specs.declared.Refusal.TheVariants.{GencostMalformed, GencostNotWhole, GencostAboveLimit}
-use Rattle.rules.specs.declared.Verdict.{Verdict}
+use Rattle.rules.specs.Refusal.{Verdict}
 use Rattle.gencost.specs.declared.Costs.{Costs}
 
 -- ---- characters: space and tab, point, `0` to `9`
@@ -93,18 +94,22 @@ whole factor d = eqb (d.digits * factor % 10 ^ d.decimals) 0
 abbrev pub scaled : ℕ → Decimal → ℕ
 scaled factor d = d.digits * factor / 10 ^ d.decimals
 
--- coefficients where nothing is refused
-abbrev pub ended : Verdict → Costs → Costs
-ended Verdict.Accepted costs = costs
-ended (Verdict.Refused r) costs = Costs.Refused r
+-- c2, c1 and c0, or why there are none
+abbrev pub Answer : Type 0
+Answer = Result Costs Refusal
 
--- c2, c1 and c0, or why there are none: 27 over all three before 28 over any
-unfoldable pub given : Decimal → Decimal → Decimal → Costs
+-- the answer where nothing is refused
+abbrev pub ended : Verdict → Answer → Answer
+ended (Ok _) answer = answer
+ended (Err r) answer = Err r
+
+-- 27 over all three before 28 over any
+unfoldable pub given : Decimal → Decimal → Decimal → Answer
 given square linear constant =
     ended
     (not (whole 10000 square && whole 100000 linear && whole 1000000 constant) refuses GencostNotWhole
     then (ltb 1000 (scaled 10000 square) || ltb 10000000 (scaled 100000 linear) || ltb 1000000000 (scaled 1000000 constant)) refuses GencostAboveLimit)
-    (Costs.Read (scaled 10000 square) (scaled 100000 linear) (scaled 1000000 constant))
+    (Ok (record { c2 = scaled 10000 square; c1 = scaled 100000 linear; c0 = scaled 1000000 constant }))
 
-unfoldable pub gencost_read : List ℕ → Costs
+unfoldable pub gencost_read : List ℕ → Answer
 gencost_read row = ended (malformed row refuses GencostMalformed) (given (decimal (word row 4)) (decimal (word row 5)) (decimal (word row 6)))

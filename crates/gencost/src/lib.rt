@@ -3,26 +3,27 @@
 // limit, and its decimals are placed by powers of ten: no large number is computed.
 #![tactic(auto)]
 
-ghost use Rattle.std.specs.Prelude.{◌≡◌, Bool, ◌||◌, ◌++◌, ◌+◌, ◌^◌, ◌≤◌, length};
-ghost use Rattle.gencost.specs.Row.{number_after, gencost_read};
-ghost use Rattle.gencost.specs.Clauses.{passes, class_end, word_end, Digits, held, valued, scanned, number_behind, only_behind, Small, HeadEnd, judged};
+ghost use Rattle.std.specs.Prelude.{◌≡◌, ◌==◌, Bool, ◌++◌, ◌+◌, ◌^◌, ◌≤◌, length, ltb, Option, IfNone, IfSome};
+ghost use Rattle.std.specs.List.{list_all};
+ghost use Rattle.gencost.specs.Row.{blank, digit, number_after, decimal, only, headed, gencost_read};
+ghost use Rattle.gencost.specs.Clauses.{other, run, first_word, behind_word, Digits, held, valued, scanned, NumberFirst, OnlyFirst, HeadEnd, parsed, judged};
 
 use rules::Refusal;
 
-// The coefficients of a unit, or why there are none.
+// The cost coefficients of a unit.
 #[derive(Clone, Copy)]
-pub enum Costs {
-    Read { c2: u32, c1: u32, c0: u32 },
-    Refused(Refusal),
+pub struct Costs {
+    pub c2: u32,
+    pub c1: u32,
+    pub c0: u32,
 }
 
-// Classes of characters: space and tab, all others, `0` to `9`, `0`.
+// What a number is read in: it counts 10 ^ places times, up to a limit.
 #[derive(Clone, Copy)]
-enum Class {
-    Blank,
-    Other,
-    Digit,
-    Zero,
+struct Scale {
+    places: usize,
+    limit: u64,
+    ghost small: { (places ≤ 6) × (limit ≤ 1000000000) },
 }
 
 // A number of the row in a coefficient's unit: how much it is, up to one above the limit, and whether that is exact.
@@ -32,19 +33,37 @@ struct Number {
     whole: bool,
 }
 
-// A word as a number.
+// The numbers of a row, each up to one above its limit.
 #[derive(Clone, Copy)]
-enum Scanned {
-    Decimal(Number),
-    Malformed,
+struct Coefficients {
+    square: Number,
+    linear: Number,
+    constant: Number,
 }
 
-// The next word as a number, and where it ends.
-#[derive(Clone, Copy)]
-enum Next {
-    Number { number: Number, end: usize },
-    Malformed,
-}
+const SQUARE: Scale = Scale {
+    places: 4,
+    limit: 1000,
+};
+
+const LINEAR: Scale = Scale {
+    places: 5,
+    limit: 10000000,
+};
+
+const CONSTANT: Scale = Scale {
+    places: 6,
+    limit: 1000000000,
+};
+
+// Of startup and shutdown, whose value is not used.
+const UNUSED: Scale = Scale {
+    places: 0,
+    limit: 0,
+};
+
+// The most bytes of a row.
+const LONGEST: usize = 256;
 
 // Entry k is 10 ^ k.
 const POWERS: [u64; 7] = [1, 10, 100, 1000, 10000, 100000, 1000000];
@@ -57,256 +76,209 @@ fn power_of_ten(k: usize) -> u64
 }
 
 fn is_blank(c: u8) -> bool
-    ensures { result ≡ passes Class.Blank c }
+    ensures { result ≡ blank c }
 {
-    if c == b' ' {
-        return true;
-    }
-    c == b'\t'
+    c == b' ' || c == b'\t'
 }
 
-fn is_digit(c: u8) -> bool
-    ensures { result ≡ passes Class.Digit c }
+// How many blanks a text starts with.
+fn leading_blanks(text: &[u8]) -> usize
+    ensures value { result ≡ run blank text.now }
+    ensures within { result ≤ length text.now }
 {
-    if c < b'0' {
-        return false;
-    }
-    c <= b'9'
+    text.iter().take_while(|c| is_blank(**c)).count()
 }
 
-fn is_of(class: Class, c: u8) -> bool
-    ensures { result ≡ passes class c }
+// How many characters a text starts with that are no blanks.
+fn leading_others(text: &[u8]) -> usize
+    ensures value { result ≡ run other text.now }
+    ensures within { result ≤ length text.now }
 {
-    match class {
-        Class::Blank => is_blank(c),
-        Class::Other => !is_blank(c),
-        Class::Digit => is_digit(c),
-        Class::Zero => c == b'0',
-    }
+    text.iter().take_while(|c| !is_blank(**c)).count()
 }
 
-// The first place from `at` on whose character is not of the class, or the end.
-fn class_end(class: Class, text: &[u8], at: usize) -> usize
-    requires { at ≤ length text.now }
-    ensures { (result ≡ class_end class text.now at) × (result ≤ length text.now) }
+// How many digits a text starts with.
+fn leading_digits(text: &[u8]) -> usize
+    ensures value { result ≡ run digit text.now }
+    ensures within { result ≤ length text.now }
 {
-    let mut i = at;
-    while i < text.len() {
-        if !is_of(class, text[i]) {
-            return i;
+    text.iter().take_while(|c| c.is_ascii_digit()).count()
+}
+
+fn all_digits(text: &[u8]) -> bool
+    ensures { result ≡ list_all digit text.now }
+{
+    text.iter().all(|c| c.is_ascii_digit())
+}
+
+fn all_zeros(text: &[u8]) -> bool
+    ensures { result ≡ list_all (λ c. c == 48) text.now }
+{
+    text.iter().all(|c| *c == b'0')
+}
+
+impl Scale {
+    // A number, or one above the limit if it is more.
+    fn held(self, n: u64) -> u64
+        ensures { result ≡ held self.limit n }
+    {
+        n.min(self.limit + 1)
+    }
+
+    // Whether a number is above the limit.
+    fn exceeded_by(self, number: Number) -> bool
+        ensures { result ≡ ltb self.limit number.result }
+    {
+        number.result > self.limit
+    }
+
+    // The number that digits spell behind `before`.
+    fn number_after(self, before: u64, digits: &[u8]) -> u64
+        requires { Digits digits.now × (before ≤ self.limit + 1) }
+        ensures { (result ≡ held self.limit (number_after before digits.now)) × (result ≤ self.limit + 1) }
+    {
+        let mut n = before;
+        for digit in digits {
+            n = self.held(10 * n + u64::from(*digit - b'0'));
         }
-        i += 1;
+        n
     }
-    i
-}
 
-// A number, or one above the limit if it is more.
-fn held(n: u64, limit: u64) -> u64
-    requires { limit ≤ 1000000000 }
-    ensures { result ≡ held limit n }
-{
-    if n > limit {
-        return limit + 1;
-    }
-    n
-}
-
-// The number that digits spell behind `before`.
-fn number_after(before: u64, digits: &[u8], limit: u64) -> u64
-    requires { Digits digits.now × (before ≤ limit + 1) × (limit ≤ 1000000000) }
-    ensures { (result ≡ held limit (number_after before digits.now)) × (result ≤ limit + 1) }
-{
-    let mut n = before;
-    let mut i = 0;
-    while i < digits.len() {
-        n = held(10 * n + (digits[i] as u64 - 48), limit);
-        i += 1;
-    }
-    n
-}
-
-// Digits and decimals, of which `places` count; the others have to be zero.
-fn placed(digits: &[u8], decimals: &[u8], places: usize, limit: u64) -> Number
-    requires { Digits digits.now × Digits decimals.now × Small places limit }
-    ensures { result ≡ valued places limit (record { formed = Bool.true; digits = number_after 0 (digits.now ++ decimals.now); decimals = length decimals.now }) }
-{
-    let ones = number_after(0, digits, limit);
-    if decimals.len() <= places {
-        let n = number_after(ones, decimals, limit);
-        let result = held(n * power_of_ten(places - decimals.len()), limit);
-        return Number {
+    // Digits and decimals, of which `places` count; the others have to be zero.
+    fn placed(self, digits: &[u8], decimals: &[u8]) -> Number
+        requires { Digits digits.now × Digits decimals.now }
+        ensures { result ≡ valued self.places self.limit (record { formed = Bool.true; digits = number_after 0 (digits.now ++ decimals.now); decimals = length decimals.now }) }
+    {
+        let ones = self.number_after(0, digits);
+        if decimals.len() <= self.places {
+            let n = self.number_after(ones, decimals);
+            let result = self.held(n * power_of_ten(self.places - decimals.len()));
+            return Number {
+                result,
+                whole: true,
+            };
+        }
+        let result = self.number_after(ones, &decimals[..self.places]);
+        Number {
             result,
-            whole: true,
-        };
+            whole: all_zeros(&decimals[self.places..]),
+        }
     }
-    let result = number_after(ones, &decimals[..places], limit);
-    let zeros_end = class_end(Class::Zero, decimals, places);
-    Number {
-        result,
-        whole: zeros_end == decimals.len(),
+
+    // A number: digits, or digits, a point and digits.
+    #[tactic(auto, using(crate::proofs::Scanning::scanning))]
+    fn scan(self, word: &[u8]) -> Option<Number>
+        ensures { result ≡ scanned self.places self.limit word.now }
+    {
+        let point = leading_digits(word);
+        if point == 0 {
+            return None;
+        }
+        if point == word.len() {
+            return Some(self.placed(word, &[]));
+        }
+        if word[point] != b'.' {
+            return None;
+        }
+        let decimals = &word[point + 1..];
+        if decimals.is_empty() {
+            return None;
+        }
+        if !all_digits(decimals) {
+            return None;
+        }
+        Some(self.placed(&word[..point], decimals))
     }
 }
 
-// A number: digits, or digits, a point and digits.
-fn scan(word: &[u8], places: usize, limit: u64) -> Scanned
-    requires { Small places limit }
-    ensures { result ≡ scanned places limit word.now }
+// The next word of a row's rest, and what stands behind it; if there is none, no characters.
+#[tactic(auto, using(crate::proofs::Taking::taking_word))]
+fn next_word(row: &[u8]) -> (&[u8], &[u8])
+    ensures text { result.0.now ≡ first_word row.now }
+    ensures rest { result.1.now ≡ behind_word row.now }
 {
-    let point = class_end(Class::Digit, word, 0);
-    if point == 0 {
-        return Scanned::Malformed;
-    }
-    if point == word.len() {
-        return Scanned::Decimal(placed(word, &word[point..], places, limit));
-    }
-    if word[point] != b'.' {
-        return Scanned::Malformed;
-    }
-    let first = point + 1;
-    if first == word.len() {
-        return Scanned::Malformed;
-    }
-    if class_end(Class::Digit, word, first) != word.len() {
-        return Scanned::Malformed;
-    }
-    Scanned::Decimal(placed(&word[..point], &word[first..], places, limit))
+    let words = &row[leading_blanks(row)..];
+    words.split_at(leading_others(words))
 }
 
-// The next word behind `at` as a number.
-fn next_number(row: &[u8], at: usize, places: usize, limit: u64) -> Next
-    requires { (at ≤ length row.now) × Small places limit }
-    ensures { (result ≡ number_behind places limit row.now at) × (word_end row.now at ≤ length row.now) }
+// The next word as a number, and what stands behind it.
+#[tactic(auto, using(crate::proofs::Taking::taking_number))]
+fn next_number(row: &[u8], scale: Scale) -> Option<(Number, &[u8])>
+    ensures none { IfNone result ((decimal (first_word row.now)).formed ≡ Bool.false) }
+    ensures some { IfSome result (λ next. NumberFirst scale.places scale.limit row.now next.0 next.1.now) }
 {
-    let from = class_end(Class::Blank, row, at);
-    let end = class_end(Class::Other, row, from);
-    let Scanned::Decimal(number) = scan(&row[from..end], places, limit) else {
-        return Next::Malformed;
-    };
-    Next::Number { number, end }
+    let (word, rest) = next_word(row);
+    Some((scale.scan(word)?, rest))
 }
 
-// Where the next word behind `at` ends, if it is the one character `c`; else 0.
-fn next_only(row: &[u8], at: usize, c: u8) -> usize
-    requires { at ≤ length row.now }
-    ensures { (result ≡ only_behind c row.now at) × (result ≤ length row.now) }
+// What stands behind the next word, if that is the one character `c`.
+fn next_only(row: &[u8], c: u8) -> Option<&[u8]>
+    ensures none { IfNone result (only c (first_word row.now) ≡ Bool.false) }
+    ensures some { IfSome result (λ rest. OnlyFirst c row.now rest.now) }
 {
-    let from = class_end(Class::Blank, row, at);
-    let end = class_end(Class::Other, row, from);
-    if end != from + 1 {
-        return 0;
+    let (word, rest) = next_word(row);
+    match word {
+        [first] if *first == c => Some(rest),
+        _ => None,
     }
-    if row[from] != c {
-        return 0;
-    }
-    end
 }
 
-fn any(a: bool, b: bool, c: bool) -> bool
-    ensures { result ≡ (a || b || c) }
+// What stands behind `2`, startup, shutdown and `3`.
+fn after_head(row: &[u8]) -> Option<&[u8]>
+    ensures none { IfNone result (headed row.now ≡ Bool.false) }
+    ensures some { IfSome result (λ rest. HeadEnd row.now rest.now) }
 {
-    if a {
-        return true;
+    let rest = next_only(row, b'2')?;
+    let (_startup, rest) = next_number(rest, UNUSED)?;
+    let (_shutdown, rest) = next_number(rest, UNUSED)?;
+    next_only(rest, b'3')
+}
+
+// The numbers of a row of at most `LONGEST` bytes, if it is well formed.
+fn parsed(row: &[u8]) -> Option<Coefficients>
+    ensures { result ≡ parsed row.now }
+{
+    if row.len() > LONGEST || row.is_empty() || is_blank(row[0]) {
+        return None;
     }
-    if b {
-        return true;
-    }
-    c
+    let rest = after_head(row)?;
+    let (square, rest) = next_number(rest, SQUARE)?;
+    let (linear, rest) = next_number(rest, LINEAR)?;
+    let (constant, rest) = next_number(rest, CONSTANT)?;
+    rest.is_empty().then_some(Coefficients {
+        square,
+        linear,
+        constant,
+    })
 }
 
 // What the numbers of a row give.
-fn judged(square: Number, linear: Number, constant: Number) -> Costs
-    ensures { result ≡ judged square linear constant }
+#[tactic(auto, unfolding(crate::specs::Clauses::judged))]
+fn judged(numbers: Coefficients) -> Result<Costs, Refusal>
+    ensures { result ≡ judged numbers }
 {
-    let Number {
-        result: c2,
-        whole: square_whole,
-    } = square;
-    let Number {
-        result: c1,
-        whole: linear_whole,
-    } = linear;
-    let Number {
-        result: c0,
-        whole: constant_whole,
-    } = constant;
-    if any(!square_whole, !linear_whole, !constant_whole) {
-        return Costs::Refused(Refusal::GencostNotWhole);
+    let Coefficients {
+        square,
+        linear,
+        constant,
+    } = numbers;
+    if !square.whole || !linear.whole || !constant.whole {
+        return Err(Refusal::GencostNotWhole);
     }
-    if any(c2 > 1000, c1 > 10000000, c0 > 1000000000) {
-        return Costs::Refused(Refusal::GencostAboveLimit);
+    if SQUARE.exceeded_by(square) || LINEAR.exceeded_by(linear) || CONSTANT.exceeded_by(constant) {
+        return Err(Refusal::GencostAboveLimit);
     }
-    Costs::Read {
-        c2: c2 as u32,
-        c1: c1 as u32,
-        c0: c0 as u32,
-    }
+    Ok(Costs {
+        c2: square.result as u32,
+        c1: linear.result as u32,
+        c0: constant.result as u32,
+    })
 }
 
-// Where `2`, startup, shutdown and `3` end; 0 if they are malformed. (Of startup and shutdown the value is not used.)
-fn head_end(row: &[u8]) -> usize
-    ensures { HeadEnd row.now result }
-{
-    let first = next_only(row, 0, b'2');
-    if first == 0 {
-        return 0;
-    }
-    let Next::Number {
-        number: _,
-        end: startup,
-    } = next_number(row, first, 0, 0)
-    else {
-        return 0;
-    };
-    let Next::Number {
-        number: _,
-        end: shutdown,
-    } = next_number(row, startup, 0, 0)
-    else {
-        return 0;
-    };
-    next_only(row, shutdown, b'3')
-}
-
-// Reads a row of at most 256 bytes: its three coefficients as those of a unit, or why there are none.
-pub fn read(row: &[u8]) -> Costs
+// Reads a row: its three coefficients as those of a unit, or why there are none.
+pub fn read(row: &[u8]) -> Result<Costs, Refusal>
     ensures { result ≡ gencost_read row.now }
 {
-    if row.len() > 256 {
-        return Costs::Refused(Refusal::GencostMalformed);
-    }
-    if row.len() == 0 {
-        return Costs::Refused(Refusal::GencostMalformed);
-    }
-    if is_blank(row[0]) {
-        return Costs::Refused(Refusal::GencostMalformed);
-    }
-    let head = head_end(row);
-    if head == 0 {
-        return Costs::Refused(Refusal::GencostMalformed);
-    }
-    let Next::Number {
-        number: square,
-        end: square_end,
-    } = next_number(row, head, 4, 1000)
-    else {
-        return Costs::Refused(Refusal::GencostMalformed);
-    };
-    let Next::Number {
-        number: linear,
-        end: linear_end,
-    } = next_number(row, square_end, 5, 10000000)
-    else {
-        return Costs::Refused(Refusal::GencostMalformed);
-    };
-    let Next::Number {
-        number: constant,
-        end,
-    } = next_number(row, linear_end, 6, 1000000000)
-    else {
-        return Costs::Refused(Refusal::GencostMalformed);
-    };
-    if end != row.len() {
-        return Costs::Refused(Refusal::GencostMalformed);
-    }
-    judged(square, linear, constant)
+    let numbers = parsed(row).ok_or(Refusal::GencostMalformed)?;
+    judged(numbers)
 }

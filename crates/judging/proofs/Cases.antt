@@ -1,4 +1,5 @@
 -- The closed cases. The greatest floor of all multipliers is that of the evaluated ones, so a judgement by these computes; each row is then one computation.
+use Rattle.std.specs.Prelude.{Ok, Err, Result}
 use Prim.Native.Nat.{ℕ, ◌-◌, ◌*◌}
 use mathlib.Core.Path.{◌≡◌, refl, ap, fun_ext, ◌∙◌}
 use mathlib.Core.Bool.{cond}
@@ -8,7 +9,7 @@ use lib.IntN.{ℤ, pos, ◌-ℤ◌}
 use lib.ListN.{length}
 use Rattle.rules.specs.Numbers.{natural}
 use Rattle.rules.specs.Layout.{Case, case_of}
-use Rattle.rules.specs.Refusal.{◌refuses◌, ◌then◌}
+use Rattle.rules.specs.Refusal.{◌refuses◌, ◌then◌, Verdict}
 use Rattle.rules.specs.Problem.{total_cost, total_net, problem_of}
 use Rattle.rules.specs.Choice.{greatest_floor}
 use Rattle.rules.specs.Bisection.{found}
@@ -16,36 +17,35 @@ use Rattle.rules.specs.Calls.{case_verdict}
 use Rattle.rules.specs.TableRows.{Row, Holds}
 use Rattle.rules.specs.Cases as cases
 use Rattle.rules.specs.declared.Refusal.TheVariants.{BufferTooShort}
-use Rattle.rules.specs.declared.Verdict.{Verdict}
 use Rattle.rules.proofs.Verdicts.{then_accepted}
 use Rattle.rules.proofs.Encoding.SoundFile.{units-sound}
 use Rattle.rules.proofs.Demand3.{case-accepted}
-use Rattle.judging.specs.declared.Judged.{Judged}
+use Rattle.std.specs.Prelude.{Result, Ok, Err, Option, Some, None}
+use Rattle.rules.specs.declared.Refusal.{Refusal}
+use Rattle.judging.specs.declared.Judgement.{Judgement}
 use Rattle.judging.specs.Judging.{acceptable, told, judge_verdict, judge_ends, judged, number_of_judged, answers_of_judged, panel_judged}
 use Rattle.judging.specs.Cases.{Call, judge, panel_judge, Answer, tells, returns, answer, judgements, panel_judgements}
 use Rattle.judging.proofs.Judgements.{floors-evaluated, verdict-parts}
 
 -- ---- a judgement by the multipliers that the search evaluates
 
-unfoldable told_by_evaluated : Case → List ℕ → Judged
+unfoldable told_by_evaluated : Case → List ℕ → Judgement
 told_by_evaluated c ps =
     let q = problem_of c in
     let cost = total_cost c.units ps in
-    Judged.Accepted cost (total_net c.units ps - 100000000 * c.demand) (natural (pos cost -ℤ greatest_floor q (found q).evaluated))
+    record { cost = cost; surplus = total_net c.units ps - 100000000 * c.demand; distance = natural (pos cost -ℤ greatest_floor q (found q).evaluated) }
 
-unfoldable ends_by_evaluated : Verdict → List ℕ → List ℕ → Judged
-ends_by_evaluated (Verdict.Refused r) file outputs = Judged.Refused r
-ends_by_evaluated Verdict.Accepted file outputs = let c = case_of file in cond (acceptable c outputs) (told_by_evaluated c outputs) Judged.NotAccepted
+unfoldable ends_by_evaluated : Verdict → List ℕ → List ℕ → Result (Option Judgement) Refusal
+ends_by_evaluated (Err r) file outputs = Err r
+ends_by_evaluated (Ok _) file outputs = let c = case_of file in Ok (cond (acceptable c outputs) (Some (told_by_evaluated c outputs)) None)
 
 -- it is the judgement
-by-evaluated : (v : Verdict) (file ps : List ℕ) → (v ≡ Verdict.Accepted → case_verdict file ≡ Verdict.Accepted) → judge_ends v file ps ≡ ends_by_evaluated v file ps
+by-evaluated : (v : Verdict) (file ps : List ℕ) → (v ≡ Ok tt → case_verdict file ≡ Ok tt) → judge_ends v file ps ≡ ends_by_evaluated v file ps
 unfolding judge_ends ends_by_evaluated told told_by_evaluated
-by-evaluated (Verdict.Refused r) file ps h = refl
-by-evaluated Verdict.Accepted file ps h =
-    let c = case_of file in
+by-evaluated (Err r) file ps h = refl
+by-evaluated (Ok _) file ps h =
     let both = case-accepted file (h refl) in
-    let same = ap (λ (z : ℤ). Judged.Accepted (total_cost c.units ps) (total_net c.units ps - 100000000 * c.demand) (natural (pos (total_cost c.units ps) -ℤ z))) (floors-evaluated c ps (units-sound file both.0) both.1) in
-    ap (λ (a : Judged). cond (acceptable c ps) a Judged.NotAccepted) same
+    rw (floors-evaluated (case_of file) ps (units-sound file both.0) both.1)
 
 -- ---- the rows
 
@@ -60,7 +60,7 @@ answer-computed : (c : Call) → answer c ≡ computed c
 unfolding answer judged panel_judged
 answer-computed (judge file ps) = ap tells (by-evaluated (judge_verdict file ps) file ps (λ e. (verdict-parts file ps e).0))
 answer-computed (panel_judge file ps answers) =
-    ap (λ (a : Judged). returns (number_of_judged a) (answers_of_judged a answers))
+    ap (λ (a : Result (Option Judgement) Refusal). returns (number_of_judged a) (answers_of_judged a answers))
     (by-evaluated (panel_verdict file ps answers) file ps (λ e. (verdict-parts file ps ((then_accepted (ltb (length answers) 4 refuses BufferTooShort) (judge_verdict file ps)).0 e).1).0))
 
 holds-computed : (rows : List (Row Call Answer)) → Holds computed rows → Holds answer rows

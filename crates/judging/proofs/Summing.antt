@@ -1,7 +1,7 @@
 -- A loop that adds up given outputs unit by unit: the outputs so far are offered, and what is summed, with what is still to come, is the whole.
 use mathlib.Core.Path.{◌≡◌, sym, ap, ◌∙◌, subst}
 use mathlib.Core.List.{List, [], ◌∷◌, map}
-use Prim.Native.Nat.{ℕ, ◌+◌, ◌≤◌, ◌<◌}
+use Prim.Native.Nat.{ℕ, ◌+◌, ◌*◌, ◌≤◌, ◌<◌}
 use native.Mathlib.Numerals.{add-one}
 use native.Mathlib.Decide.{ℕ_discrete}
 use native.Mathlib.Omega.{arith}
@@ -13,6 +13,7 @@ use Rattle.rules.proofs.Lists.{pairwise_from, pairwise_at}
 use Rattle.rules.specs.Offers.{Among, Given}
 use Rattle.rules.proofs.Economics.Quantities.{cost-range, net-range}
 use Rattle.site.specs.Site.{first, last, Within, Coefficients, no_offer, HoldsProblem}
+use Rattle.choice.proofs.Regions.{small}
 use Rattle.evaluation.specs.Clauses.{Sized}
 use Rattle.judging.specs.Clauses.{Summable, Summing, SumHeld}
 
@@ -60,27 +61,31 @@ pub record Totalling (coefficients ends ranges : List ℕ) (n : ℕ) (ps : List 
   pub held : (q : Problem) → HoldsProblem coefficients ends ranges n q → Prefix q ps c w i
 
 module _ {coefficients ends ranges : List ℕ} {n : ℕ} {ps : List ℕ} (g : Summable coefficients ends ranges n ps) where
-  pub totalling_starts : Totalling coefficients ends ranges n ps 0 0 0
-  totalling_starts = record { within = omega arith; sized = record { cost = omega arith; net = omega arith }; held = λ q h. record { given = λ j k. absurd (omega arith); cost = omega arith; net = omega arith } }
-
   module _ {c w i : ℕ} (s : Totalling coefficients ends ranges n ps c w i) (l : i < n) where
     -- an output outside the unit's regions is given by nobody
     pub not-given : (Within ends (first ranges i) (last ranges i) (get_or ps i 0) → ⊥) → (q : Problem) → HoldsProblem coefficients ends ranges n q → Given q.offers ps → ⊥
     not-given out q h a = out (((h.offers i l).outputs (get_or ps i 0)).0 (pairwise_at (λ o p. Among p o.outputs) no_offer 0 q.offers ps a i (omega (arith, h.count))))
 
-    module _ {x y : ℕ} (inside : Within ends (first ranges i) (last ranges i) (get_or ps i 0)) (small : get_or ps i 0 ≤ 10000) (d : (u : Unit) → Coefficients coefficients i u → x ≡ cost u (get_or ps i 0)) (f : (u : Unit) → Coefficients coefficients i u → y ≡ net u (get_or ps i 0)) where
-      pub sized-more : Sized (i + 1) (record { cost = c + x; net = w + y })
-      sized-more =
-          let u = (g.held.holds.offers i l).unit in
-          record { cost = omega (arith, s.sized.cost, d _ u, cost-range u.sound small); net = omega (arith, s.sized.net, f _ u, net-range u.sound small) }
+    -- one within them costs and gives no more than a unit can
+    module _ (inside : Within ends (first ranges i) (last ranges i) (get_or ps i 0)) where
+      in_range : get_or ps i 0 ≤ 10000
+      in_range = small (g.held.holds.offers i l).regions (get_or ps i 0) inside
 
-      pub totalling_more : Totalling coefficients ends ranges n ps (c + x) (w + y) (i + 1)
-      totalling_more =
-          record {
-            within = omega arith;
-            sized = sized-more;
-            held = λ q h. prefix_more q ps (s.held q h) (omega (arith, g.each)) (omega (arith, h.count)) (((h.offers i l).outputs (get_or ps i 0)).1 inside) (d _ (h.offers i l).unit) (f _ (h.offers i l).unit);
-          }
+      module _ {x : ℕ} (d : (u : Unit) → Coefficients coefficients i u → x ≡ cost u (get_or ps i 0)) where
+        pub cost_more : c + x ≤ 201000000000 * (i + 1)
+        cost_more = let u = (g.held.holds.offers i l).unit in omega (arith, s.sized.cost, d _ u, cost-range u.sound in_range)
+
+        module _ {y : ℕ} (f : (u : Unit) → Coefficients coefficients i u → y ≡ net u (get_or ps i 0)) where
+          pub net_more : w + y ≤ 1100000000000 * (i + 1)
+          net_more = let u = (g.held.holds.offers i l).unit in omega (arith, s.sized.net, f _ u, net-range u.sound in_range)
+
+          pub totalling_more : Totalling coefficients ends ranges n ps (c + x) (w + y) (i + 1)
+          totalling_more =
+              record {
+                within = omega arith;
+                sized = record { cost = cost_more; net = net_more };
+                held = λ q h. prefix_more q ps (s.held q h) (omega (arith, g.each)) (omega (arith, h.count)) (((h.offers i l).outputs (get_or ps i 0)).1 inside) (d _ (h.offers i l).unit) (f _ (h.offers i l).unit);
+              }
 
   pub totalling_ends : {c w i : ℕ} → Totalling coefficients ends ranges n ps c w i → i ≡ n → SumHeld coefficients ends ranges n ps c w
   totalling_ends {c} {w} s e =

@@ -1,66 +1,65 @@
 -- Rules 19.3 to 19.6 of docs/SPECIFICATION.md: what holds of every judgement, as statements. (They are proved in proofs/Claims.)
-use Rattle.std.specs.Prelude.{ℕ, ◌+◌, ◌*◌, List, ◌↔◌, ◌≡◌, pos, ◌-ℤ◌, length, ◌≤ℤ◌}
+use Rattle.std.specs.Prelude.{ℕ, ◌+◌, ◌*◌, List, ◌↔◌, ◌≡◌, pos, ◌-ℤ◌, length, ◌≤ℤ◌, Ok, Some, None, Result, Option}
 use Rattle.rules.specs.Layout.{Case, case_of}
 use Rattle.rules.specs.Problem.{total_cost, total_net, problem_of}
 use Rattle.rules.specs.Refusal.{file_verdict}
 use Rattle.rules.specs.Calls.{case_verdict, dispatched}
 use Rattle.rules.specs.Promise.{Permitted, Covering, GreatestFloor, cost_less_gap, reply_in}
-use Rattle.rules.specs.declared.Verdict.{Verdict}
-use Rattle.rules.specs.declared.Dispatched.{Dispatched}
-use Rattle.judging.specs.declared.Judged.{Judged}
+use Rattle.rules.specs.declared.Refusal.{Refusal}
+use Rattle.judging.specs.declared.Judgement as code-judgement
 
 -- what is told of accepted outputs
-pub record Told (c : Case) (ps : List ℕ) (cost surplus distance : ℕ) : Type 0 where
+pub record Told (c : Case) (ps : List ℕ) (j : code-judgement.Judgement) : Type 0 where
   -- they are permitted and cover, and cost and surplus are stated as they are
   pub permitted : Permitted c ps
   pub covering : Covering c ps
-  pub costs : cost ≡ total_cost c.units ps
-  pub surplus-is : 100000000 * c.demand + surplus ≡ total_net c.units ps
+  pub costs : j.cost ≡ total_cost c.units ps
+  pub surplus-is : 100000000 * c.demand + j.surplus ≡ total_net c.units ps
   -- cost less distance is the greatest of the floors of all multipliers from 0 to 65,536, so that the distance is never negative
-  pub greatest_floor : GreatestFloor (problem_of c) (pos cost -ℤ pos distance)
+  pub greatest_floor : GreatestFloor (problem_of c) (pos j.cost -ℤ pos j.distance)
   -- and whatever is permitted and covers costs at least that
-  pub nobody_spends_less : (qs : List ℕ) → Permitted c qs → Covering c qs → (pos cost -ℤ pos distance) ≤ℤ pos (total_cost c.units qs)
+  pub nobody_spends_less : (qs : List ℕ) → Permitted c qs → Covering c qs → (pos j.cost -ℤ pos j.distance) ≤ℤ pos (total_cost c.units qs)
 
 -- of a case that dispatch accepts, and a list with an output for each unit
-pub record Judgement (c : Case) (ps : List ℕ) (a : Judged) : Type 0 where
+pub record Judgement (c : Case) (ps : List ℕ) (a : Result (Option code-judgement.Judgement) Refusal) : Type 0 where
   -- accepted exactly where the outputs are permitted and cover, and else not accepted
-  pub accepts : (Permitted c ps × Covering c ps) ↔ ((cost surplus distance : ℕ) × (a ≡ Judged.Accepted cost surplus distance))
-  pub rejects : (Permitted c ps → Covering c ps → ⊥) ↔ (a ≡ Judged.NotAccepted)
-  pub tells : (cost surplus distance : ℕ) → a ≡ Judged.Accepted cost surplus distance → Told c ps cost surplus distance
+  pub accepts : (Permitted c ps × Covering c ps) ↔ ((j : code-judgement.Judgement) × (a ≡ Ok (Some j)))
+  pub rejects : (Permitted c ps → Covering c ps → ⊥) ↔ (a ≡ Ok None)
+  pub tells : (j : code-judgement.Judgement) → a ≡ Ok (Some j) → Told c ps j
 
-abbrev pub Judges : (List ℕ → List ℕ → Judged) → Type 0
+abbrev pub Judges : (List ℕ → List ℕ → Result (Option code-judgement.Judgement) Refusal) → Type 0
 Judges judge =
     (file ps : List ℕ)
-    → case_verdict file ≡ Verdict.Accepted
+    → case_verdict file ≡ Ok tt
     → length ps ≡ length (case_of file).units
     → Judgement (case_of file) ps (judge file ps)
 
 -- the outputs that dispatch replies, read from the reply's bytes, are accepted with exactly the reply's cost, surplus and gap
-abbrev pub AcceptsDispatch : (List ℕ → List ℕ → Judged) → Type 0
+abbrev pub AcceptsDispatch : (List ℕ → List ℕ → Result (Option code-judgement.Judgement) Refusal) → Type 0
 AcceptsDispatch judge =
     (file buffer : List ℕ) (n : ℕ)
-    → (dispatched file buffer).answer ≡ Dispatched.Replied n
-    → let r = reply_in (dispatched file buffer).reply in judge file r.outputs ≡ Judged.Accepted r.cost r.surplus r.gap
+    → (dispatched file buffer).answer ≡ Ok n
+    → let r = reply_in (dispatched file buffer).reply in judge file r.outputs ≡ Ok (Some (record { cost = r.cost; surplus = r.surplus; distance = r.gap }))
 
 -- and no accepted outputs cost less than the reply's cost less its gap
-abbrev pub NotBelowDispatch : (List ℕ → List ℕ → Judged) → Type 0
+abbrev pub NotBelowDispatch : (List ℕ → List ℕ → Result (Option code-judgement.Judgement) Refusal) → Type 0
 NotBelowDispatch judge =
-    (file ps buffer : List ℕ) (n cost surplus distance : ℕ)
-    → (dispatched file buffer).answer ≡ Dispatched.Replied n
-    → judge file ps ≡ Judged.Accepted cost surplus distance
-    → cost_less_gap (reply_in (dispatched file buffer).reply) ≤ℤ pos cost
+    (file ps buffer : List ℕ) (n : ℕ) (j : code-judgement.Judgement)
+    → (dispatched file buffer).answer ≡ Ok n
+    → judge file ps ≡ Ok (Some j)
+    → cost_less_gap (reply_in (dispatched file buffer).reply) ≤ℤ pos j.cost
 
 -- of every accepted file (rule 4.8) and every list: accepted exactly where the outputs are permitted and cover
-abbrev pub AcceptsExactly : (List ℕ → List ℕ → Judged) → Type 0
+abbrev pub AcceptsExactly : (List ℕ → List ℕ → Result (Option code-judgement.Judgement) Refusal) → Type 0
 AcceptsExactly judge =
     (file ps : List ℕ)
-    → file_verdict file ≡ Verdict.Accepted
-    → (Permitted (case_of file) ps × Covering (case_of file) ps) ↔ ((cost surplus distance : ℕ) × (judge file ps ≡ Judged.Accepted cost surplus distance))
+    → file_verdict file ≡ Ok tt
+    → (Permitted (case_of file) ps × Covering (case_of file) ps) ↔ ((j : code-judgement.Judgement) × (judge file ps ≡ Ok (Some j)))
 
 -- for one file, cost less distance is one number: the reply's cost less its gap
-abbrev pub OneBound : (List ℕ → List ℕ → Judged) → Type 0
+abbrev pub OneBound : (List ℕ → List ℕ → Result (Option code-judgement.Judgement) Refusal) → Type 0
 OneBound judge =
-    (file ps buffer : List ℕ) (n cost surplus distance : ℕ)
-    → (dispatched file buffer).answer ≡ Dispatched.Replied n
-    → judge file ps ≡ Judged.Accepted cost surplus distance
-    → pos cost -ℤ pos distance ≡ cost_less_gap (reply_in (dispatched file buffer).reply)
+    (file ps buffer : List ℕ) (n : ℕ) (j : code-judgement.Judgement)
+    → (dispatched file buffer).answer ≡ Ok n
+    → judge file ps ≡ Ok (Some j)
+    → pos j.cost -ℤ pos j.distance ≡ cost_less_gap (reply_in (dispatched file buffer).reply)

@@ -9,36 +9,24 @@ ghost use Rattle.judging.specs.Judging.{judged};
 ghost use Rattle.judging.specs.Clauses.{LiesTold, Summable, SumTold, JudgedHeld};
 
 use bisection::Allocation;
-use evaluation::FirstBest;
+use evaluation::Sums;
 use rules::Refusal;
+use site::Site;
 
-// What is answered of the outputs.
+// What is told of outputs that are accepted: their cost, what they give above the demand, and how far their cost is above the
+// greatest floor.
 #[derive(Clone, Copy)]
-pub enum Judged {
-    Accepted {
-        cost: u64,
-        surplus: u64,
-        distance: u64,
-    },
-    NotAccepted,
-    Refused(Refusal),
-}
-
-// Cost and net of outputs together, if each is permitted.
-#[derive(Clone, Copy)]
-pub enum Summed {
-    Permitted { cost: u64, net: u64 },
-    NotPermitted,
+pub struct Judgement {
+    pub cost: u64,
+    pub surplus: u64,
+    pub distance: u64,
 }
 
 // Whether `p` lies from `low` to `high`.
 fn between(low: u16, high: u16, p: u32) -> bool
     ensures { result ≡ (leb low p && leb p high) }
 {
-    if p < low as u32 {
-        return false;
-    }
-    p <= high as u32
+    u32::from(low) <= p && p <= u32::from(high)
 }
 
 // Whether `p` lies in one of the regions `first`..=`last`.
@@ -46,107 +34,65 @@ fn lies_within(ends: &[u16; 384], first: usize, last: usize, p: u32) -> bool
     requires { last < 192 }
     ensures { LiesTold ends.now first last p result }
 {
-    let mut k = first;
-    while k <= last {
+    for k in first..=last {
         if between(ends[2 * k], ends[2 * k + 1], p) {
             return true;
         }
-        k += 1;
     }
     false
 }
 
-// Cost and net of one output for each of the `n` units.
-fn sum_outputs(
-    coefficients: &[u64; 160],
-    ends: &[u16; 384],
-    ranges: &[u8; 64],
-    n: usize,
-    outputs: &[u32],
-) -> Summed
-    requires { Summable coefficients.now ends.now ranges.now n outputs.now }
-    ensures { SumTold coefficients.now ends.now ranges.now n outputs.now result }
+// Cost and net of the outputs together, one for each unit, if each is permitted.
+fn sum_outputs(site: &Site, outputs: &[u32]) -> Option<Sums>
+    requires { Summable site.now.coefficients site.now.ends site.now.ranges site.now.count outputs.now }
+    ensures { SumTold site.now.coefficients site.now.ends site.now.ranges site.now.count outputs.now result }
 {
-    let mut cost: u64 = 0;
-    let mut net: u64 = 0;
-    let mut i = 0;
-    while i < n {
-        let first = ranges[2 * i] as usize;
-        let last = ranges[2 * i + 1] as usize;
-        let p = outputs[i];
-        if !lies_within(ends, first, last, p) {
-            return Summed::NotPermitted;
+    let mut cost = 0;
+    let mut net = 0;
+    for (i, &p) in outputs.iter().enumerate() {
+        let first = usize::from(site.ranges[2 * i]);
+        let last = usize::from(site.ranges[2 * i + 1]);
+        if !lies_within(&site.ends, first, last, p) {
+            return None;
         }
-        cost += curve::cost_of(coefficients, i, p as u16);
-        net += curve::net_of(coefficients, i, p as u16);
-        i += 1;
+        cost += curve::cost_of(&site.coefficients, i, p as u16);
+        net += curve::net_of(&site.coefficients, i, p as u16);
     }
-    Summed::Permitted { cost, net }
+    Some(Sums { cost, net })
 }
 
 // Outputs, one for each unit, of a site that step 1 accepts; `first` are its greatest outputs.
-fn judge_outputs(
-    coefficients: &[u64; 160],
-    ends: &[u16; 384],
-    ranges: &[u8; 64],
-    n: usize,
-    target: u64,
-    first: Allocation,
-    outputs: &[u32],
-) -> Judged
-    requires { FirstHeld coefficients.now ends.now ranges.now n target first × (length outputs.now ≡ n) }
-    ensures { JudgedHeld coefficients.now ends.now ranges.now n target first outputs.now result }
+fn judge_outputs(site: &Site, first: Allocation, outputs: &[u32]) -> Option<Judgement>
+    requires { FirstHeld site.now.coefficients site.now.ends site.now.ranges site.now.count site.now.target first × (length outputs.now ≡ site.now.count) }
+    ensures { JudgedHeld site.now.coefficients site.now.ends site.now.ranges site.now.count site.now.target first outputs.now result }
 {
-    let sums = sum_outputs(coefficients, ends, ranges, n, outputs);
-    match sums {
-        Summed::NotPermitted => Judged::NotAccepted,
-        Summed::Permitted { cost, net } => {
-            if net < target {
-                return Judged::NotAccepted;
-            }
-            let mut trace = [0i64; 0];
-            let found = bisection::search(coefficients, ends, ranges, n, target, first, &mut trace);
-            Judged::Accepted {
-                cost,
-                surplus: net - target,
-                distance: bisection::distance(cost, found.floor),
-            }
-        }
+    let Sums { cost, net } = sum_outputs(site, outputs)?;
+    if net < site.target {
+        return None;
     }
+    let mut trace = [0i64; 0];
+    let found = bisection::search(site, first, &mut trace);
+    Some(Judgement {
+        cost,
+        surplus: net - site.target,
+        distance: bisection::distance(cost, found.floor),
+    })
 }
 
-// Judges outputs for the case file.
-pub fn judge(file: &[u8], outputs: &[u32]) -> Judged
+// Judges outputs for the case file: refused, or not accepted (`None`), or accepted.
+pub fn judge(file: &[u8], outputs: &[u32]) -> Result<Option<Judgement>, Refusal>
     ensures { result ≡ judged file.now outputs.now }
 {
-    let mut coefficients = [0u64; 160];
-    let mut ends = [0u16; 384];
-    let mut ranges = [0u8; 64];
+    let mut site = Site::empty();
     let mut greatest = [0u16; 32];
-    let first = evaluation::first_best(
-        file,
-        &mut coefficients,
-        &mut ends,
-        &mut ranges,
-        &mut greatest,
-    );
-    match first {
-        FirstBest::Refused(r) => Judged::Refused(r),
-        FirstBest::Found {
-            count,
-            target,
-            cost,
-            net,
-        } => {
-            if outputs.len() != count {
-                return Judged::Refused(Refusal::OutputCountInvalid);
-            }
-            let best = Allocation {
-                outputs: greatest,
-                cost,
-                net,
-            };
-            judge_outputs(&coefficients, &ends, &ranges, count, target, best, outputs)
-        }
+    let Sums { cost, net } = evaluation::first_best(file, &mut site, &mut greatest)?;
+    if outputs.len() != site.count {
+        return Err(Refusal::OutputCountInvalid);
     }
+    let best = Allocation {
+        outputs: greatest,
+        cost,
+        net,
+    };
+    Ok(judge_outputs(&site, best, outputs))
 }

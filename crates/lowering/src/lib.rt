@@ -4,26 +4,21 @@
 ghost use Rattle.lowering.specs.Clauses.{UnitLowerable, LowersUnit, Lowerable, Lowers};
 
 use evaluation::Sums;
+use site::Site;
 
 // Lowers unit `i` to its least tied output `l` where all outputs together, of cost and net `s`, then still cover.
-fn lower_unit(
-    coefficients: &[u64; 160],
-    i: usize,
-    target: u64,
-    s: Sums,
-    l: u16,
-    outputs: &mut [u16],
-) -> Sums
-    requires { UnitLowerable coefficients.now i s l outputs.old }
-    ensures { LowersUnit coefficients.now i target s l outputs.old outputs.new result }
+fn lower_unit(site: &Site, i: usize, s: Sums, l: u16, outputs: &mut [u16]) -> Sums
+    requires { UnitLowerable site.now.coefficients i s l outputs.old }
+    ensures { LowersUnit site.now.coefficients i site.now.target s l outputs.old outputs.new result }
 {
     let p = outputs[i];
     if p <= l {
         return s;
     }
     let Sums { cost, net } = s;
+    let coefficients = &site.coefficients;
     let after = net - curve::net_of(coefficients, i, p) + curve::net_of(coefficients, i, l);
-    if after < target {
+    if after < site.target {
         return s;
     }
     outputs[i] = l;
@@ -33,28 +28,19 @@ fn lower_unit(
     }
 }
 
-// Lowers the first `n` units one by one; `outputs` are their choices, of cost and net `s`, and `least` their least tied outputs, of
-// which `ties` may be lower.
-pub fn lower(
-    coefficients: &[u64; 160],
-    n: usize,
-    target: u64,
-    s: Sums,
-    ties: u64,
-    least: &[u16],
-    outputs: &mut [u16],
-) -> Sums
-    requires { Lowerable coefficients.now n s ties least.now outputs.old }
-    ensures { Lowers coefficients.now n target s least.now outputs.old outputs.new result }
+// Lowers the units one by one; `outputs` are their choices, of cost and net `s`, and `least` their least tied outputs, of which `ties`
+// may be lower.
+pub fn lower(site: &Site, s: Sums, ties: u64, least: &[u16], outputs: &mut [u16]) -> Sums
+    requires { Lowerable site.now.coefficients site.now.count s ties least.now outputs.old }
+    ensures { Lowers site.now.coefficients site.now.count site.now.target s least.now outputs.old outputs.new result }
 {
-    if ties == 0 {
+    let alone = ties == 0;
+    if alone {
         return s;
     }
     let mut sums = s;
-    let mut i = 0;
-    while i < n {
-        sums = lower_unit(coefficients, i, target, sums, least[i], outputs);
-        i += 1;
+    for i in 0..site.count {
+        sums = lower_unit(site, i, sums, least[i], outputs);
     }
     sums
 }

@@ -1,11 +1,11 @@
 -- Rules 18.1 to 18.8 of docs/SPECIFICATION.md: a dispatch's reply as Modbus holding registers. What the call answers to a request, on every input, and the final contents of the answer's buffer.
-use Rattle.std.specs.Prelude.{ℕ, ◌+◌, ◌*◌, Bool, cond, not, ◌||◌, List, [], ◌∷◌, ltb, eqb, ℤ, pos, length, get_or, take, drop}
+use Rattle.std.specs.Prelude.{ℕ, ◌+◌, ◌*◌, Bool, cond, not, ◌||◌, List, [], ◌∷◌, Option, Some, None, Result, Ok, Err, ltb, eqb, ℤ, pos, length, get_or, take, drop}
 use Rattle.fields.specs.Field.{field}
 use Rattle.rules.specs.Lists.{over}
 use Rattle.rules.specs.Refusal.{number_of, ◌refuses◌, ◌then◌}
+use Rattle.rules.specs.declared.Refusal.{Refusal}
 use Rattle.rules.specs.declared.Refusal.TheVariants.{BufferTooShort, ReplyMalformed, RequestLengthInvalid, AnswerTooShort}
-use Rattle.rules.specs.declared.Verdict.{Verdict}
-use Rattle.modbus.specs.declared.Viewed.{Viewed}
+use Rattle.rules.specs.Refusal.{Verdict}
 
 -- ---- the request (rule 18.2): function code, first register and number of registers
 
@@ -32,12 +32,12 @@ values reply start quantity = take (2 * quantity) (drop (2 * start) reply)
 
 -- ---- the answer (rules 18.3 to 18.5)
 
--- (rule 18.3) the exception to a request for some of so many registers: illegal function, illegal data value, illegal data address; 0 is none
-unfoldable pub exception_to : ℕ → Request → ℕ
+-- (rule 18.3) the exception to a request for some of so many registers: illegal function, illegal data value, illegal data address
+unfoldable pub exception_to : ℕ → Request → Option ℕ
 exception_to registers q =
-    cond (not (eqb q.function 3)) 1
-    (cond (ltb q.quantity 1 || ltb 125 q.quantity) 3
-    (cond (ltb registers (q.start + q.quantity)) 2 0))
+    cond (not (eqb q.function 3)) (Some 1)
+    (cond (ltb q.quantity 1 || ltb 125 q.quantity) (Some 3)
+    (cond (ltb registers (q.start + q.quantity)) (Some 2) None))
 
 -- the function code with its top bit set
 abbrev pub with_top_bit : ℕ → ℕ
@@ -51,10 +51,12 @@ exception_answer function code = with_top_bit function ∷ code ∷ []
 abbrev pub normal_answer : List ℕ → Request → List ℕ
 normal_answer reply q = q.function ∷ 2 * q.quantity ∷ values reply q.start q.quantity
 
+abbrev pub answer_by : Option ℕ → List ℕ → Request → List ℕ
+answer_by (Some code) reply q = exception_answer q.function code
+answer_by None reply q = normal_answer reply q
+
 unfoldable pub answer_of : List ℕ → Request → List ℕ
-answer_of reply q =
-    let code = exception_to (register_count reply) q in
-    cond (eqb code 0) (normal_answer reply q) (exception_answer q.function code)
+answer_of reply q = answer_by (exception_to (register_count reply) q) reply q
 
 -- ---- the call (rules 18.6, 18.7)
 
@@ -68,15 +70,19 @@ view_verdict reply request answer =
     then not (eqb (length request) 5) refuses RequestLengthInvalid
     then ltb (length answer) 252 refuses AnswerTooShort
 
+-- the answer's length, or why there is none
+abbrev pub Viewed : Type 0
+Viewed = Result ℕ Refusal
+
 pub record ViewResult : Type 0 where
   pub answer : Viewed
   pub bytes : List ℕ
 
 unfoldable pub view_ends : Verdict → List ℕ → List ℕ → List ℕ → ViewResult
-view_ends (Verdict.Refused r) reply request answer = record { answer = Viewed.Refused r; bytes = answer }
-view_ends Verdict.Accepted reply request answer =
+view_ends (Err r) reply request answer = record { answer = Err r; bytes = answer }
+view_ends (Ok _) reply request answer =
     let out = answer_of reply (request_of request) in
-    record { answer = Viewed.Answered (length out); bytes = over out answer }
+    record { answer = Ok (length out); bytes = over out answer }
 
 unfoldable pub viewed : List ℕ → List ℕ → List ℕ → ViewResult
 viewed reply request answer = view_ends (view_verdict reply request answer) reply request answer
@@ -84,12 +90,12 @@ viewed reply request answer = view_ends (view_verdict reply request answer) repl
 -- ---- the call as C sees it (rule 18.8): 0 or a refusal's number, and the answer's length in a lent list, which has room for it or is refused with 1
 
 abbrev pub number_of_viewed : Viewed → ℕ
-number_of_viewed (Viewed.Answered n) = 0
-number_of_viewed (Viewed.Refused r) = number_of r
+number_of_viewed (Ok n) = 0
+number_of_viewed (Err r) = number_of r
 
 abbrev pub lengths_of_viewed : Viewed → List ℤ → List ℤ
-lengths_of_viewed (Viewed.Answered n) lengths = over (pos n ∷ []) lengths
-lengths_of_viewed (Viewed.Refused r) lengths = lengths
+lengths_of_viewed (Ok n) lengths = over (pos n ∷ []) lengths
+lengths_of_viewed (Err r) lengths = lengths
 
 pub record PanelViewResult : Type 0 where
   pub number : ℕ

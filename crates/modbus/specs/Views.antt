@@ -1,11 +1,10 @@
 -- Rule 18.12 of docs/SPECIFICATION.md, and what tells wrong views apart: calls on the replies of U5 and of a site with two units (`CaseFiles`), byte by byte. Above each row stands the wrong rule that it shows.
-use Rattle.std.specs.Prelude.{ℕ, List, [], ◌∷◌, ◌++◌, refl, ℤ, pos, length, replicate, take, drop}
+use Rattle.std.specs.Prelude.{ℕ, List, [], ◌∷◌, ◌++◌, refl, Ok, Err, ℤ, pos, length, replicate, take, drop}
 use Rattle.fields.specs.Field.{number_after}
 use Rattle.rules.specs.Refusal.{number_of}
 use Rattle.rules.specs.TableRows.{Row, Holds}
 use Rattle.rules.specs.CaseFiles.{u5_reply, site_reply, put}
-use Rattle.modbus.specs.declared.Viewed.{Viewed}
-use Rattle.modbus.specs.View.{exception_to, answer_of, view_verdict, view_ends, viewed, panel_viewed}
+use Rattle.modbus.specs.View.{exception_to, answer_of, view_verdict, view_ends, Viewed, viewed, panel_viewed}
 
 pub data Call : Type 0 where
   -- a reply, a request, and an answer of 252 bytes, 255 in each
@@ -29,8 +28,8 @@ abbrev pub answers : List ℕ → Result
 answers s = answers_into (length s) (s ++ drop (length s) buffer)
 
 abbrev pub of_view : Viewed → List ℕ → Result
-of_view (Viewed.Answered n) bytes = answers_into n bytes
-of_view (Viewed.Refused r) bytes = refuses (number_of r) bytes
+of_view (Ok n) bytes = answers_into n bytes
+of_view (Err r) bytes = refuses (number_of r) bytes
 
 unfoldable pub result : Call → Result
 unfolding number_after exception_to answer_of view_verdict view_ends viewed panel_viewed

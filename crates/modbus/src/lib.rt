@@ -2,18 +2,19 @@
 // bytes (rules 18.1 to 18.7).
 #![tactic(auto)]
 
-ghost use Rattle.std.specs.Prelude.{◌≡◌, Bool, ◌+◌, ◌*◌, ◌≤◌, ◌<◌, length, take, drop};
+ghost use Rattle.std.specs.Prelude.{◌≡◌, Bool, ◌+◌, ◌*◌, ◌≤◌, length};
 ghost use Rattle.rules.specs.Lists.{over};
-ghost use Rattle.modbus.specs.View.{exception_to, with_top_bit, exception_answer, normal_answer, malformed, viewed};
-ghost use Rattle.modbus.specs.Clauses.{AnswerWritten};
+ghost use Rattle.modbus.specs.View.{request_of, exception_to, with_top_bit, exception_answer, normal_answer, malformed, viewed};
+ghost use Rattle.modbus.specs.Clauses.{asked, AnswerWritten};
 
 use rules::Refusal;
 
-// What the view answers: the length of the answer that it wrote.
+// A request for `quantity` registers from `start` on.
 #[derive(Clone, Copy)]
-pub enum Viewed {
-    Answered(usize),
-    Refused(Refusal),
+struct Request {
+    function: u8,
+    start: u16,
+    quantity: u16,
 }
 
 // Whether `reply` is not of the form that dispatch writes.
@@ -23,14 +24,19 @@ fn reply_malformed(reply: &[u8]) -> bool
     if reply.len() < 2 {
         return true;
     }
-    let n = fields::read_u16(reply, 0) as usize;
-    if n < 1 {
-        return true;
+    let n = usize::from(fields::read::<u16>(reply, 0));
+    n < 1 || n > 32 || reply.len() != 28 + 2 * n
+}
+
+fn read_request(bytes: &[u8]) -> Request
+    requires { length bytes.now ≡ 5 }
+    ensures { asked result ≡ request_of bytes.now }
+{
+    Request {
+        function: bytes[0],
+        start: fields::read::<u16>(bytes, 1),
+        quantity: fields::read::<u16>(bytes, 3),
     }
-    if n > 32 {
-        return true;
-    }
-    reply.len() != 28 + 2 * n
 }
 
 fn with_top_bit(function: u8) -> u8
@@ -42,24 +48,21 @@ fn with_top_bit(function: u8) -> u8
     function
 }
 
-// The exception to a request for `quantity` of so many `registers` from `start` on; 0 is none.
-fn exception_to(registers: usize, function: u8, start: usize, quantity: usize) -> u8
-    requires { (start < 65536) × (quantity < 65536) }
-    ensures { result ≡ exception_to registers (record { function = function; start = start; quantity = quantity }) }
+// The exception to a request, of so many `registers`.
+#[tactic(auto, unfolding(crate::specs::View::exception_to))]
+fn exception_to(registers: usize, request: Request) -> Option<u8>
+    ensures { result ≡ exception_to registers (asked request) }
 {
-    if function != 3 {
-        return 1;
+    if request.function != 3 {
+        return Some(1);
     }
-    if quantity < 1 {
-        return 3;
+    if request.quantity < 1 || request.quantity > 125 {
+        return Some(3);
     }
-    if quantity > 125 {
-        return 3;
+    if usize::from(request.start) + usize::from(request.quantity) > registers {
+        return Some(2);
     }
-    if start + quantity > registers {
-        return 2;
-    }
-    0
+    None
 }
 
 // Writes an exception to a request of `function`, and gives its length.
@@ -67,62 +70,47 @@ fn write_exception(answer: &mut [u8], function: u8, code: u8) -> usize
     requires { 2 ≤ length answer.old }
     ensures { (result ≡ 2) × (answer.new ≡ over (exception_answer function code) answer.old) }
 {
-    answer[0] = with_top_bit(function);
-    answer[1] = code;
+    answer[..2].copy_from_slice(&[with_top_bit(function), code]);
     2
 }
 
-// Writes the values of `quantity` registers from `start` on, and gives the answer's length.
-fn write_values(
-    reply: &[u8],
-    function: u8,
-    start: usize,
-    quantity: usize,
-    answer: &mut [u8],
-) -> usize
-    requires { (quantity ≤ 125) × (2 * (start + quantity) ≤ length reply.now) × (length reply.now ≤ 92) × (252 ≤ length answer.old) }
-    ensures { (result ≡ 2 + 2 * quantity) × (answer.new ≡ over (normal_answer reply.now (record { function = function; start = start; quantity = quantity })) answer.old) }
+// Writes the values of the registers that are requested, and gives the answer's length.
+fn write_values(reply: &[u8], request: Request, answer: &mut [u8]) -> usize
+    requires { (request.quantity ≤ 125) × (2 * (request.start + request.quantity) ≤ length reply.now) × (length reply.now ≤ 92) × (252 ≤ length answer.old) }
+    ensures { (result ≡ 2 + 2 * request.quantity) × (answer.new ≡ over (normal_answer reply.now (asked request)) answer.old) }
 {
+    let quantity = usize::from(request.quantity);
     let count = 2 * quantity;
-    answer[0] = function;
+    answer[0] = request.function;
     answer[1] = count as u8;
-    let from = 2 * start;
+    let from = 2 * usize::from(request.start);
     answer[2..2 + count].copy_from_slice(&reply[from..from + count]);
     2 + count
 }
 
-// Writes the answer to a request for `quantity` registers from `start` on, and gives its length.
-fn write_answer(
-    reply: &[u8],
-    function: u8,
-    start: usize,
-    quantity: usize,
-    answer: &mut [u8],
-) -> usize
-    requires { (malformed reply.now ≡ Bool.false) × (start < 65536) × (quantity < 65536) × (252 ≤ length answer.old) }
-    ensures { AnswerWritten reply.now (record { function = function; start = start; quantity = quantity }) answer.old answer.new result }
+// Writes the answer to a request, and gives its length.
+fn write_answer(reply: &[u8], request: Request, answer: &mut [u8]) -> usize
+    requires { (malformed reply.now ≡ Bool.false) × (252 ≤ length answer.old) }
+    ensures { AnswerWritten reply.now (asked request) answer.old answer.new result }
 {
-    let code = exception_to(reply.len() / 2, function, start, quantity);
-    if code != 0 {
-        return write_exception(answer, function, code);
+    match exception_to(reply.len() / 2, request) {
+        Some(code) => write_exception(answer, request.function, code),
+        None => write_values(reply, request, answer),
     }
-    write_values(reply, function, start, quantity, answer)
 }
 
-// Answers `request` from `reply` at the start of `answer`.
-pub fn view(reply: &[u8], request: &[u8], answer: &mut [u8]) -> Viewed
+// Answers `request` from `reply` at the start of `answer`, and gives the answer's length.
+pub fn view(reply: &[u8], request: &[u8], answer: &mut [u8]) -> Result<usize, Refusal>
     ensures { viewed reply.now request.now answer.old ≡ record { answer = result; bytes = answer.new } }
 {
     if reply_malformed(reply) {
-        return Viewed::Refused(Refusal::ReplyMalformed);
+        return Err(Refusal::ReplyMalformed);
     }
     if request.len() != 5 {
-        return Viewed::Refused(Refusal::RequestLengthInvalid);
+        return Err(Refusal::RequestLengthInvalid);
     }
     if answer.len() < 252 {
-        return Viewed::Refused(Refusal::AnswerTooShort);
+        return Err(Refusal::AnswerTooShort);
     }
-    let start = fields::read_u16(request, 1) as usize;
-    let quantity = fields::read_u16(request, 3) as usize;
-    Viewed::Answered(write_answer(reply, request[0], start, quantity, answer))
+    Ok(write_answer(reply, read_request(request), answer))
 }

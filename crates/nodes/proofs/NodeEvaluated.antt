@@ -3,13 +3,14 @@ use Prim.Native.Nat.{ℕ, suc, ◌+◌, ◌-◌, ◌≤◌, ◌<◌, max}
 use native.Mathlib.Omega.{arith}
 use native.Mathlib.Numerals.{add-one}
 use mathlib.Core.Path.{◌≡◌, refl, sym, ap, ap₂, subst, ◌∙◌}
-use mathlib.Core.Bool.{Bool, true, false, cond, ◌&&◌, true≢false}
+use mathlib.Core.Bool.{Bool, true, false, cond, ◌&&◌}
 use mathlib.Core.List.{List, map}
 use mathlib.Core.Logic.{⊎_elim}
 use lib.Dec.{ltb}
 use lib.IntN.{ℤ}
 use lib.ListN.{take}
 use borrow.Author.Tests.{lt-ltb, le-ltb}
+use Rattle.std.specs.Prelude.{Some, None}
 use Rattle.rules.specs.Numbers.{natural}
 use Rattle.rules.specs.Problem.{total_cost, total_net, Problem, units_of, target}
 use Rattle.rules.specs.Choice.{choice, choices, least_tied, floor}
@@ -27,10 +28,10 @@ use Rattle.sums.specs.Sums.{HoldsSums}
 use Rattle.sums.proofs.Summed.{untied, sums-sized}
 use Rattle.nodes.specs.declared.Progress as code-progress
 use Rattle.nodes.specs.declared.Node as code-node
+use Rattle.nodes.specs.declared.Seen as code-seen
 use Rattle.nodes.specs.declared.NodeEvaluation as code-evaluation
 use Rattle.nodes.specs.declared.Dispatch as code-dispatch
 use Rattle.nodes.specs.declared.Searched as code-searched
-use Rattle.nodes.specs.declared.Limits as code-limits
 use Rattle.nodes.specs.Clauses.{totals_of, SumsAt, Confirms, KnownFloor, HoldsProgress, Dispatches, taken_at, SearchesNode, EvaluatedAt}
 use Rattle.nodes.proofs.Confirmed.{confirmed_best, confirmed_floor}
 use Rattle.nodes.proofs.TwoMultipliers.{cost_summed, net_summed, floor-natural, floor_proves, covered-solvable, natural-rises}
@@ -58,7 +59,7 @@ module _ {coefficients ends ranges : List ℕ} {n t : ℕ} {first : code-allocat
   searched-outputs = subst (λ (k : ℕ). take k f.best.outputs ≡ (found q).best) h.problem.count (s.held q h g).found.best.places ∙ sym (stated q).0
 
 -- from step 1 on
-pub dispatched-first : {coefficients ends ranges outputs : List ℕ} {l : code-limits.Limits} {n t c w : ℕ} {r : code-searched.Searched} → Covering coefficients ends ranges l.count l.target outputs n t c w → SearchesNode coefficients ends ranges l (record { outputs = outputs; cost = c; net = w }) r → {q : Problem} → Holding coefficients ends ranges l.count l.target q → Dispatches q r.dispatch × (take l.count r.outputs ≡ (solve q).outputs)
+pub dispatched-first : {coefficients ends ranges outputs : List ℕ} {n t c w : ℕ} {r : code-searched.Searched} → Covering coefficients ends ranges n t outputs c w → SearchesNode coefficients ends ranges n t (record { outputs = outputs; cost = c; net = w }) r → {q : Problem} → Holding coefficients ends ranges n t q → Dispatches q r.dispatch × (take n r.outputs ≡ (solve q).outputs)
 unfolding greatest_outputs
 dispatched-first f s {q} h = s.dispatches q h (f.solves q h.problem h.demanded) (f.allocates.held q h.problem)
 
@@ -127,6 +128,14 @@ module _ {coefficients ends ranges : List ℕ} {n t : ℕ} {x : code-node.Node} 
     unfolding choices
     confirmed_outputs {outputs} a = subst (λ (k : ℕ). take k outputs ≡ map (choice (x.multiplier + 1)) q.offers) h.problem.count (a.held q h.problem).places ∙ sym best ∙ sym (stated q).0
 
+-- ---- what is seen of a node whose dispatch is taken
+
+seen-is : {a v : code-seen.Seen} → Some a ≡ Some v → v ≡ a
+seen-is e = cc
+
+pub seen_multiplier : {a v : code-seen.Seen} → Some a ≡ Some v → a.multiplier ≤ 65535 → v.multiplier ≤ 65535
+seen_multiplier q h = omega (arith, h, ap (λ (w : code-seen.Seen). w.multiplier) (seen-is q))
+
 -- ---- what the search then has
 
 -- which of the two is the best
@@ -141,10 +150,10 @@ module _ {n parent d : ℕ} {y : List NodeUnit} {p : Progress Reply} {s : code-p
         let same = best-is d y p k.solves true (lt-ltb (solve (problem_at d y)).cost p.best.cost (omega (arith, k.cost, h.cost))) in
         let cheaper = lt-ltb e.cost s.cost l in
         record {
-          seen = λ _.
+          seen = λ v q.
               record {
                 solves = k.solves;
-                floor = ap (max parent) k.floor;
+                floor = ap (λ (w : code-seen.Seen). w.floor) (seen-is q) ∙ ap (max parent) k.floor;
                 progress =
                     rw cheaper
                     (record {
@@ -157,7 +166,7 @@ module _ {n parent d : ℕ} {y : List NodeUnit} {p : Progress Reply} {s : code-p
                           omega (arith, k.cost, h.cost, h.bound, lower) ∙ ap (λ (r : Reply). least_or r.cost p.floors) (sym same);
                     });
               };
-          closed = λ z. absurd (true≢false z);
+          closed = λ z. (cc);
         }
 
     -- the best stays
@@ -166,10 +175,10 @@ module _ {n parent d : ℕ} {y : List NodeUnit} {p : Progress Reply} {s : code-p
         let same = best-is d y p k.solves false (le-ltb (solve (problem_at d y)).cost p.best.cost (omega (arith, k.cost, h.cost))) in
         let dearer = le-ltb e.cost s.cost l in
         record {
-          seen = λ _.
+          seen = λ v q.
               record {
                 solves = k.solves;
-                floor = ap (max parent) k.floor;
+                floor = ap (λ (w : code-seen.Seen). w.floor) (seen-is q) ∙ ap (max parent) k.floor;
                 progress =
                     rw dearer
                     (record {
@@ -180,13 +189,13 @@ module _ {n parent d : ℕ} {y : List NodeUnit} {p : Progress Reply} {s : code-p
                       bound = h.bound ∙ ap (λ (r : Reply). least_or r.cost p.floors) (sym same);
                     });
               };
-          closed = λ z. absurd (true≢false z);
+          closed = λ z. (cc);
         }
 
   -- the node only counts
-  pub counts_only : {best : List ℕ} {r : code-evaluation.NodeEvaluation} → HoldsProgress n p s best → (solvable (problem_at d y) ≡ true → p.best.cost ≤ (solve (problem_at d y)).cost - (solve (problem_at d y)).gap) → r.seen ≡ false → r.progress ≡ record { visited = s.visited + 1; cost = s.cost; surplus = s.surplus; floor = s.floor } → EvaluatedAt n parent d y p r best
+  pub counts_only : {best : List ℕ} {r : code-evaluation.NodeEvaluation} → HoldsProgress n p s best → (solvable (problem_at d y) ≡ true → p.best.cost ≤ (solve (problem_at d y)).cost - (solve (problem_at d y)).gap) → r.seen ≡ None → r.progress ≡ record { visited = s.visited + 1; cost = s.cost; surplus = s.surplus; floor = s.floor } → EvaluatedAt n parent d y p r best
   counts_only {best} {r} h reaches e f =
       record {
-        seen = λ z. absurd (true≢false (sym z ∙ e));
+        seen = λ v z. (cc);
         closed = λ _. record { reaches = reaches; progress = rw f (record { visited = omega (arith, h.visited); cost = h.cost; surplus = h.surplus; outputs = h.outputs; bound = h.bound }) };
       }

@@ -4,9 +4,11 @@ use native.Mathlib.Omega.{arith}
 use mathlib.Core.Path.{◌≡◌, refl, sym, ap, ◌∙◌}
 use mathlib.Core.Bool.{Bool, true, false, cond}
 use lib.IntN.{ℤ}
-use lib.Signed.{le_z, ◌≤ℤ◌}
+use lib.Signed.{◌≤ℤ◌}
+use Rattle.std.specs.Prelude.{int_lt}
+use Rattle.std.specs.Int.{int_max}
 use Rattle.fields.specs.Integers.{Is}
-use Rattle.fields.proofs.Integers.{same, ints, itself, is_pos, is_minus, when_le, when_gt, one-zero}
+use Rattle.fields.proofs.Integers.{same, ints, itself, is_pos, is_minus, when_lt, when_ge, one-zero}
 use Rattle.rules.specs.Lists.{Every}
 use Rattle.rules.specs.Numbers.{natural}
 use Rattle.rules.specs.Problem.{total_cost, total_net, Problem, units_of, target}
@@ -61,9 +63,9 @@ covered-solvable m q proper available h =
     by false e = absurd (omega (arith, h, unsolvable q proper e (choices m q) (tied-given m q.offers (choices m q) (choices_tied m q available))))
 
 -- the greater of two, as naturals
-pub natural-greater : (x y : ℤ) → natural (cond (le_z x y) y x) ≡ max (natural x) (natural y)
-natural-greater x y = by (le_z x y) refl
+pub natural-greater : (x y : ℤ) → natural (int_max x y) ≡ max (natural x) (natural y)
+natural-greater x y = by (int_lt y x) refl
   where
-    by : (b : Bool) → le_z x y ≡ b → natural (cond b y x) ≡ max (natural x) (natural y)
-    by true e = omega (arith, when_le (itself x) (itself y) e, natural-up x, natural-up y, one-zero x, one-zero y)
-    by false e = omega (arith, when_gt (itself x) (itself y) e, natural-up x, natural-up y, one-zero x, one-zero y)
+    by : (b : Bool) → int_lt y x ≡ b → natural (cond b x y) ≡ max (natural x) (natural y)
+    by true e = omega (arith, when_lt (itself y) (itself x) e, natural-up x, natural-up y, one-zero x, one-zero y)
+    by false e = omega (arith, when_ge (itself y) (itself x) e, natural-up x, natural-up y, one-zero x, one-zero y)

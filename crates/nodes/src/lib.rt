@@ -4,14 +4,15 @@
 // field's fathomed, or pruned, by bound.)
 #![tactic(auto)]
 
-ghost use Rattle.std.specs.Prelude.{◌≡◌, true, ◌+◌, ◌≤◌, ◌<◌, max};
+ghost use Rattle.std.specs.Prelude.{◌≡◌, true, ◌+◌, ◌≤◌, ◌<◌, IfSome};
 ghost use Rattle.rules.specs.Numbers.{natural};
 ghost use Rattle.evaluation.specs.Clauses.{SiteHeld, Dualable};
 ghost use Rattle.bisection.specs.Clauses.{FirstHeld, Searchable};
 ghost use Rattle.nodes.specs.Clauses.{totals_of, Floors, KnownFloor, taken_at, SearchesNode, DispatchesNode, NodeEvaluable, EvaluatesNode};
 
 use bisection::{Allocation, Found};
-use evaluation::{FirstBest, Sums};
+use evaluation::Sums;
+use site::Site;
 use sums::Totals;
 
 // What a search has: how many nodes are evaluated; cost and surplus of the best outputs, which stand in a lent array; and the least
@@ -24,15 +25,7 @@ pub struct Progress {
     pub floor: u64,
 }
 
-// What stays the same in a search: the number of units, the net that covers the demand, and how many nodes may be evaluated.
-#[derive(Clone, Copy)]
-pub struct Limits {
-    pub count: usize,
-    pub target: u64,
-    pub budget: u32,
-}
-
-// A node besides the arrays: its parent's floor, and a multiplier below the greatest with the sums of the node's choices at it and at
+// A node besides its site: its parent's floor, and a multiplier below the greatest with the sums of the node's choices at it and at
 // the next one.
 #[derive(Clone, Copy)]
 pub struct Node {
@@ -42,13 +35,18 @@ pub struct Node {
     pub high: Totals,
 }
 
-// What the evaluation of a node gives besides the best outputs: `seen` if it is neither closed nor without an allocation, which only
-// counts; then its floor; a multiplier for its parts; and what the search then has.
+// What is seen of a node that is neither closed nor without an allocation: its floor, and a multiplier for its parts.
 #[derive(Clone, Copy)]
-pub struct NodeEvaluation {
-    pub seen: bool,
+pub struct Seen {
     pub floor: u64,
     pub multiplier: u64,
+}
+
+// What the evaluation of a node gives besides the best outputs: what is seen of it, or none where it only counts; and what the search
+// then has.
+#[derive(Clone, Copy)]
+pub struct NodeEvaluation {
+    pub seen: Option<Seen>,
     pub progress: Progress,
 }
 
@@ -67,20 +65,11 @@ struct Searched {
     outputs: [u16; 32],
 }
 
-fn higher_of(a: u64, b: u64) -> u64
-    ensures { result ≡ max a b }
-{
-    if a < b { b } else { a }
-}
-
 // A floor as an unsigned number: 0 for a negative one.
 fn natural_of(z: i64) -> u64
     ensures { result ≡ natural z }
 {
-    if z < 0 {
-        return 0;
-    }
-    z as u64
+    z.max(0) as u64
 }
 
 // The floor of multiplier `m`, by the sums of its choices.
@@ -97,17 +86,9 @@ fn counted(s: Progress) -> Progress
     requires { s.visited < 4294967295 }
     ensures { result ≡ record { visited = s.visited + 1; cost = s.cost; surplus = s.surplus; floor = s.floor } }
 {
-    let Progress {
-        visited,
-        cost,
-        surplus,
-        floor,
-    } = s;
     Progress {
-        visited: visited + 1,
-        cost,
-        surplus,
-        floor,
+        visited: s.visited + 1,
+        ..s
     }
 }
 
@@ -122,51 +103,31 @@ fn known_floor(x: Node, target: u64) -> u64
         high,
         ..
     } = x;
-    natural_of(bisection::greater(
-        floor_at(low, target, multiplier),
-        floor_at(high, target, multiplier + 1),
-    ))
+    let lower = floor_at(low, target, multiplier);
+    natural_of(lower.max(floor_at(high, target, multiplier + 1)))
 }
 
-// The last multiplier that a search noted in its trace; 65,535 instead of 65,536.
-fn last_noted(trace: &[i64; 36], evaluations: u16) -> u64
-    ensures { result ≤ 65535 }
+// The last multiplier that a search noted in its trace, if it noted one; 65,535 instead of 65,536.
+fn last_noted(trace: &[i64; 36], evaluations: u16) -> Option<u64>
+    ensures { IfSome result (λ m. m ≤ 65535) }
 {
-    let k = 2 * evaluations as usize;
-    if k < 2 {
-        return 0;
-    }
-    if k > 36 {
-        return 0;
-    }
-    let m = natural_of(trace[k - 2]);
-    if m > 65535 {
-        return 65535;
-    }
-    m
+    let place = (2 * evaluations as usize).checked_sub(2)?;
+    let noted = trace.get(place)?;
+    Some(natural_of(*noted).min(65535))
 }
 
 // A multiplier for the parts of a node that was dispatched: `m`, the last one that its search noted; if that covers, the one before it.
 // (It decides how soon the parts are known, and no answer: any other is right too.)
-fn next_multiplier(
-    coefficients: &[u64; 160],
-    ends: &[u16; 384],
-    ranges: &[u8; 64],
-    l: Limits,
-    m: u64,
-) -> u64
-    requires { SiteHeld coefficients.now ends.now ranges.now l.count × (m ≤ 65535) }
+fn next_multiplier(site: &Site, m: u64) -> u64
+    requires { SiteHeld site.now.coefficients site.now.ends site.now.ranges site.now.count × (m ≤ 65535) }
     ensures { result ≤ 65535 }
 {
-    let Limits { count, target, .. } = l;
-    let Totals { net, .. } = sums::sums_at(coefficients, ends, ranges, count, m);
-    if net < target {
-        return m;
+    let Totals { net, .. } = sums::sums_at(site, m);
+    if net < site.target {
+        m
+    } else {
+        m.saturating_sub(1)
     }
-    if m == 0 {
-        return 0;
-    }
-    m - 1
 }
 
 // What the search has and the node's floor, after a dispatch; where that is cheaper than the best, the caller writes its outputs.
@@ -180,119 +141,82 @@ fn taken(parent: u64, s: Progress, d: Dispatch) -> NodeEvaluation
         floor,
         multiplier,
     } = d;
-    let Progress {
-        visited,
-        cost: before,
-        floor: open,
-        ..
-    } = s;
-    let below = higher_of(parent, floor);
+    let Progress { cost: before, .. } = s;
+    let below = parent.max(floor);
+    let seen = Some(Seen {
+        floor: below,
+        multiplier,
+    });
+    let progress = counted(s);
     if cost < before {
         return NodeEvaluation {
-            seen: true,
-            floor: below,
-            multiplier,
+            seen,
             progress: Progress {
-                visited: visited + 1,
                 cost,
                 surplus,
-                floor: open,
+                ..progress
             },
         };
     }
-    NodeEvaluation {
-        seen: true,
-        floor: below,
-        multiplier,
-        progress: counted(s),
-    }
+    NodeEvaluation { seen, progress }
 }
 
 // The dispatch of a node whose greatest outputs, which cover, are `first`.
-fn search_node(
-    coefficients: &[u64; 160],
-    ends: &[u16; 384],
-    ranges: &[u8; 64],
-    l: Limits,
-    first: Allocation,
-) -> Searched
-    requires { FirstHeld coefficients.now ends.now ranges.now l.count l.target first }
-    ensures { SearchesNode coefficients.now ends.now ranges.now l first result }
+fn search_node(site: &Site, first: Allocation) -> Searched
+    requires { FirstHeld site.now.coefficients site.now.ends site.now.ranges site.now.count site.now.target first }
+    ensures { SearchesNode site.now.coefficients site.now.ends site.now.ranges site.now.count site.now.target first result }
 {
-    let Limits { count, target, .. } = l;
     let mut trace = [0i64; 36];
     let Found {
         best,
         floor,
         evaluations,
-    } = bisection::search(coefficients, ends, ranges, count, target, first, &mut trace);
+    } = bisection::search(site, first, &mut trace);
     let Allocation { outputs, cost, net } = best;
-    let last = last_noted(&trace, evaluations);
+    let last = last_noted(&trace, evaluations).unwrap_or(0);
     Searched {
         dispatch: Dispatch {
             cost,
-            surplus: net - target,
+            surplus: net - site.target,
             floor: natural_of(floor),
-            multiplier: next_multiplier(coefficients, ends, ranges, l, last),
+            multiplier: next_multiplier(site, last),
         },
         outputs,
     }
 }
 
 // The node is dispatched, if it has an allocation.
-fn dispatch_node(
-    coefficients: &[u64; 160],
-    ends: &[u16; 384],
-    ranges: &[u8; 64],
-    l: Limits,
-    parent: u64,
-    s: Progress,
-    best: &mut [u16; 32],
-) -> NodeEvaluation
-    requires { Searchable coefficients.now ends.now ranges.now l.count l.target × (s.visited < l.budget) }
-    ensures { DispatchesNode coefficients.now ends.now ranges.now l parent s best.old result best.new }
+// (A frame of its own: the visit of a node calls itself, and would hold the arrays of this one at each depth.)
+#[inline(never)]
+fn dispatch_node(site: &Site, parent: u64, s: Progress, best: &mut [u16; 32]) -> NodeEvaluation
+    requires { Searchable site.now.coefficients site.now.ends site.now.ranges site.now.count site.now.target × (s.visited < 4294967295) }
+    ensures { DispatchesNode site.now.coefficients site.now.ends site.now.ranges site.now.count site.now.target parent s best.old result best.new }
 {
-    let Limits { count, target, .. } = l;
     let Progress { cost: known, .. } = s;
     let mut greatest = [0u16; 32];
-    let first = evaluation::step1(coefficients, ends, ranges, count, target, &mut greatest);
-    match first {
-        FirstBest::Refused(_) => NodeEvaluation {
-            seen: false,
-            floor: parent,
-            multiplier: 0,
+    let Ok(Sums { cost, net }) = evaluation::step1(site, &mut greatest) else {
+        return NodeEvaluation {
+            seen: None,
             progress: counted(s),
-        },
-        FirstBest::Found { cost, net, .. } => {
-            let top = Allocation {
-                outputs: greatest,
-                cost,
-                net,
-            };
-            let Searched { dispatch, outputs } = search_node(coefficients, ends, ranges, l, top);
-            if dispatch.cost < known {
-                *best = outputs;
-                return taken(parent, s, dispatch);
-            }
-            taken(parent, s, dispatch)
-        }
+        };
+    };
+    let top = Allocation {
+        outputs: greatest,
+        cost,
+        net,
+    };
+    let Searched { dispatch, outputs } = search_node(site, top);
+    if dispatch.cost < known {
+        *best = outputs;
     }
+    taken(parent, s, dispatch)
 }
 
-// Evaluates the node that the arrays hold: its dispatch is the best if it is cheaper than the best.
-pub fn evaluate_node(
-    coefficients: &[u64; 160],
-    ends: &[u16; 384],
-    ranges: &[u8; 64],
-    l: Limits,
-    x: Node,
-    s: Progress,
-    best: &mut [u16; 32],
-) -> NodeEvaluation
-    requires { NodeEvaluable coefficients.now ends.now ranges.now l x s }
-    ensures { EvaluatesNode coefficients.now ends.now ranges.now l x s best.old result best.new }
+// Evaluates the node that the site holds: its dispatch is the best if it is cheaper than the best.
+pub fn evaluate_node(site: &Site, x: Node, s: Progress, best: &mut [u16; 32]) -> NodeEvaluation
+    requires { NodeEvaluable site.now.coefficients site.now.ends site.now.ranges site.now.count site.now.target x s }
+    ensures { EvaluatesNode site.now.coefficients site.now.ends site.now.ranges site.now.count site.now.target x s best.old result best.new }
 {
-    let Limits { count, target, .. } = l;
     let Node {
         parent,
         multiplier,
@@ -301,43 +225,26 @@ pub fn evaluate_node(
     } = x;
     let Totals { net: short, .. } = low;
     let Totals { cost, net, ties } = high;
-    let Progress { cost: known, .. } = s;
-    let floor = known_floor(x, target);
-    if floor >= known {
+    let floor = known_floor(x, site.target);
+    let bound = s.cost;
+    if floor >= bound {
         return NodeEvaluation {
-            seen: false,
-            floor: parent,
-            multiplier,
+            seen: None,
             progress: counted(s),
         };
     }
-    if short >= target {
-        return dispatch_node(coefficients, ends, ranges, l, parent, s, best);
-    }
-    if net < target {
-        return dispatch_node(coefficients, ends, ranges, l, parent, s, best);
-    }
-    if ties != 0 {
-        return dispatch_node(coefficients, ends, ranges, l, parent, s, best);
+    if short >= site.target || net < site.target || ties != 0 {
+        return dispatch_node(site, parent, s, best);
     }
     let d = Dispatch {
         cost,
-        surplus: net - target,
+        surplus: net - site.target,
         floor,
         multiplier,
     };
-    if cost < known {
+    if cost < s.cost {
         let mut least = [0u16; 32];
-        evaluation::evaluate(
-            coefficients,
-            ends,
-            ranges,
-            count,
-            multiplier + 1,
-            best,
-            &mut least,
-        );
-        return taken(parent, s, d);
+        evaluation::evaluate(site, multiplier + 1, best, &mut least);
     }
     taken(parent, s, d)
 }

@@ -1,4 +1,4 @@
-pub mod Edges
+pub mod Chunks
 pub mod Lengths
 pub mod Written
 pub mod Packed

@@ -1,19 +1,20 @@
 // Packing: the case file of a demand, planner's rows and, in edition 2, a b1 for each of them. Every check comes before the first write.
 #![tactic(auto)]
 
-ghost use Rattle.std.specs.Prelude.{◌≡◌, ◌++◌, ◌+◌, ◌*◌, ◌≤◌, length};
+ghost use Rattle.std.specs.Prelude.{Ok, ◌≡◌, ◌++◌, ◌+◌, ◌*◌, ◌≤◌, length};
 ghost use Rattle.fields.specs.Field.{bytes, bytes_of_each};
 ghost use Rattle.rules.specs.Lists.{each, over};
-ghost use Rattle.rules.specs.Layout.{in_second, unit_in_row, body_length, body_of_unit, contents_from, bodies_of, bodies_length, file_in};
+ghost use Rattle.rules.specs.Layout.{in_second, body_length, body_of_unit, contents_from, bodies_of, bodies_length, file_in};
 ghost use Rattle.rules.specs.Refusal.{in_order, unit_verdict};
 ghost use Rattle.rules.specs.Calls.{rows_invalid, packed_in, packed, packed2};
 ghost use Rattle.unit.specs.UnitHeld.{unit_held};
-ghost use Rattle.packing.specs.Clauses.{RowsSound, WordsFit};
+ghost use Rattle.packing.specs.Clauses.{WordsFit, row_count, unit_in, units_in, AreSound};
 
 mod reading;
 
-use crate::reading::read_row;
-use rules::{Packed, Refusal, Verdict};
+use crate::reading::Rows;
+use fields::Number;
+use rules::Refusal;
 use unit::{Unit, check_unit};
 
 // So many in edition 2, none in edition 1.
@@ -21,38 +22,6 @@ fn in_second(edition: u16, n: usize) -> usize
     ensures { (result ≡ in_second edition n) × (result ≤ n) }
 {
     if edition == 2 { n } else { 0 }
-}
-
-// Whether `length` numbers are no list of 1 to 32 rows, or not with so many b1.
-fn rows_invalid(edition: u16, length: usize, losses: usize) -> bool
-    ensures { result ≡ rows_invalid edition length losses }
-{
-    if losses != in_second(edition, length / 19) {
-        return true;
-    }
-    if length == 0 {
-        return true;
-    }
-    if length % 19 != 0 {
-        return true;
-    }
-    length > 608
-}
-
-// The first refusal of `n` rows, in order.
-fn check_rows(rows: &[u32], b1: &[i32], n: usize) -> Verdict
-    requires { 19 * n ≤ length rows.now }
-    ensures { result ≡ in_order (each n (λ i. unit_verdict (unit_in_row rows.now b1.now i))) }
-{
-    let mut i = 0;
-    while i < n {
-        let verdict = check_unit(read_row(rows, b1, i));
-        if let Verdict::Refused(_) = verdict {
-            return verdict;
-        }
-        i += 1;
-    }
-    Verdict::Accepted
 }
 
 // The length of a unit's body.
@@ -64,45 +33,14 @@ fn body_length(edition: u16, u: Unit) -> usize
     26 + in_second(edition, 4) + 4 * z
 }
 
-// The length of the file of `n` rows.
-fn file_length(edition: u16, rows: &[u32], b1: &[i32], n: usize) -> usize
-    requires { RowsSound edition rows.now b1.now n }
-    ensures { result ≡ 8 + 4 * n + bodies_length edition (each n (unit_in_row rows.now b1.now)) }
-{
-    let mut length = 8 + 4 * n;
-    let mut i = 0;
-    while i < n {
-        length += body_length(edition, read_row(rows, b1, i));
-        i += 1;
-    }
-    length
-}
-
 // Writes the head to the start of `file`.
 fn write_head(file: &mut [u8], edition: u16, n: usize, demand: u32)
     requires { (n ≤ 32) × (8 ≤ length file.old) }
     ensures { file.new ≡ over (bytes 2 edition ++ bytes 2 n ++ bytes 4 demand) file.old }
 {
-    fields::write_u16(file, 0, edition);
-    fields::write_u16(file, 2, n as u16);
-    fields::write_u32(file, 4, demand);
-}
-
-// Writes the entries of `n` rows to the start of `contents`.
-fn write_contents(contents: &mut [u8], edition: u16, rows: &[u32], b1: &[i32], n: usize)
-    requires rows_sound { RowsSound edition rows.now b1.now n }
-    requires n_in_bounds { 4 * n ≤ length contents.old }
-    ensures { contents.new ≡ over (contents_from edition (8 + 4 * n) (each n (unit_in_row rows.now b1.now))) contents.old }
-{
-    let mut offset = 8 + 4 * n;
-    let mut i = 0;
-    while i < n {
-        let size = body_length(edition, read_row(rows, b1, i));
-        fields::write_u16(contents, 4 * i, offset as u16);
-        fields::write_u16(contents, 4 * i + 2, size as u16);
-        offset += size;
-        i += 1;
-    }
+    fields::write(file, 0, edition);
+    fields::write(file, 2, n as u16);
+    fields::write(file, 4, demand);
 }
 
 // Writes numbers, 16 bits each, to the start of `part`.
@@ -111,108 +49,164 @@ fn write_words(part: &mut [u8], words: &[u32])
     requires words_in_bounds { 2 * length words.now ≤ length part.old }
     ensures { part.new ≡ over (bytes_of_each 2 words.now) part.old }
 {
-    let mut k = 0;
-    while k < words.len() {
-        fields::write_u16(part, 2 * k, words[k] as u16);
-        k += 1;
+    for (k, word) in words.iter().enumerate() {
+        fields::write(part, 2 * k, *word as u16);
     }
 }
 
 // Writes a unit's body to the start of `part`.
 fn write_body(part: &mut [u8], edition: u16, u: Unit)
-    requires u_value { unit_verdict (unit_held u) ≡ Verdict.Accepted }
+    requires u_value { unit_verdict (unit_held u) ≡ Ok tt }
     requires u_in_bounds { body_length edition (unit_held u).zone_count ≤ length part.old }
     ensures { part.new ≡ over (body_of_unit edition (unit_held u)) part.old }
 {
-    let Unit {
-        c0,
-        c1,
-        c2,
-        b,
-        b1,
-        least,
-        greatest,
-        previous,
-        up,
-        down,
-        mark,
-        zone_count,
-        edges,
-    } = u;
-    let words = [c2, b, least, greatest, previous, up, down, mark, zone_count];
-    let used = 2 * zone_count as usize;
+    let words = [
+        u.c2,
+        u.b,
+        u.least,
+        u.greatest,
+        u.previous,
+        u.up,
+        u.down,
+        u.mark,
+        u.zone_count,
+    ];
+    let edges = &u.edges;
+    let used = 2 * u.zone_count as usize;
     let width = in_second(edition, 4);
-    let loss = fields::unsigned_i32(b1);
-    fields::write_u32(part, 0, c0);
-    fields::write_u32(part, 4, c1);
+    let loss = u.b1.into_field();
+    fields::write(part, 0, u.c0);
+    fields::write(part, 4, u.c1);
     write_words(&mut part[8..], &words);
     fields::write_number(part, 26, width, loss);
     let start = 26 + width;
     write_words(&mut part[start..], &edges[..used]);
 }
 
-// Writes the bodies of `n` rows to the start of `part`.
-fn write_bodies(part: &mut [u8], edition: u16, rows: &[u32], b1: &[i32], n: usize)
-    requires rows_sound { RowsSound edition rows.now b1.now n }
-    requires b1_in_bounds { bodies_length edition (each n (unit_in_row rows.now b1.now)) ≤ length part.old }
-    ensures { part.new ≡ over (bodies_of edition (each n (unit_in_row rows.now b1.now))) part.old }
-{
-    let mut at = 0;
-    let mut i = 0;
-    while i < n {
-        let u = read_row(rows, b1, i);
-        write_body(&mut part[at..], edition, u);
-        at += body_length(edition, u);
-        i += 1;
+impl Rows<'_> {
+    // Whether the numbers are no list of 1 to 32 rows, or not with so many b1.
+    fn invalid(self) -> bool
+        ensures { result ≡ rows_invalid self.entry.edition (length self.entry.numbers.now) (length self.entry.b1.now) }
+    {
+        let length = self.numbers.len();
+        self.b1.len() != in_second(self.edition, length / 19)
+            || length == 0
+            || length % 19 != 0
+            || length > 608
     }
-}
 
-// Writes the file of a demand and `n` rows to the start of `file`.
-fn write_file(file: &mut [u8], edition: u16, demand: u32, rows: &[u32], b1: &[i32], n: usize)
-    requires rows_sound { RowsSound edition rows.now b1.now n }
-    requires b1_in_bounds { 8 + 4 * n + bodies_length edition (each n (unit_in_row rows.now b1.now)) ≤ length file.old }
-    ensures { file.new ≡ over (file_in edition demand (each n (unit_in_row rows.now b1.now))) file.old }
-{
-    write_head(file, edition, n, demand);
-    write_contents(&mut file[8..], edition, rows, b1, n);
-    let bodies = 8 + 4 * n;
-    write_bodies(&mut file[bodies..], edition, rows, b1, n);
-}
+    // The first refusal of the rows, in order.
+    #[inline(always)]
+    fn check(self) -> Result<(), Refusal>
+        ensures { result ≡ in_order (each (row_count self.entry) (λ i. unit_verdict (unit_in self.entry i))) }
+    {
+        for i in 0..self.count() {
+            check_unit(self.unit(i))?;
+        }
+        Ok(())
+    }
 
-// The length of the file of an edition, of a demand and rows, which it writes to the start of `file`.
-fn pack_in(edition: u16, demand: u32, rows: &[u32], b1: &[i32], file: &mut [u8]) -> Packed
-    ensures { packed_in edition demand rows.now b1.now file.old ≡ record { answer = result; file = file.new } }
-{
-    if rows_invalid(edition, rows.len(), b1.len()) {
-        return Packed::Refused(Refusal::RowsInvalid);
+    // The length of the rows' file.
+    #[inline(never)]
+    fn file_length(self) -> usize
+        requires { AreSound self }
+        ensures { result ≡ 8 + 4 * row_count self.entry + bodies_length self.entry.edition (units_in self.entry) }
+    {
+        let n = self.count();
+        let mut length = 8 + 4 * n;
+        for i in 0..n {
+            length += body_length(self.edition, self.unit(i));
+        }
+        length
     }
-    if demand > 320000 {
-        return Packed::Refused(Refusal::DemandOutOfRange);
+
+    // Writes the entries of the rows to the start of `contents`.
+    fn write_contents(self, contents: &mut [u8])
+        requires sound { AreSound self }
+        requires in_bounds { 4 * row_count self ≤ length contents.old }
+        ensures { contents.new ≡ over (contents_from self.entry.edition (8 + 4 * row_count self.entry) (units_in self.entry)) contents.old }
+    {
+        let n = self.count();
+        let mut offset = 8 + 4 * n;
+        for i in 0..n {
+            let size = body_length(self.edition, self.unit(i));
+            fields::write(contents, 4 * i, offset as u16);
+            fields::write(contents, 4 * i + 2, size as u16);
+            offset += size;
+        }
     }
-    let n = rows.len() / 19;
-    let verdict = check_rows(rows, b1, n);
-    if let Verdict::Refused(refusal) = verdict {
-        return Packed::Refused(refusal);
+
+    // Writes the bodies of the rows to the start of `part`.
+    fn write_bodies(self, part: &mut [u8])
+        requires sound { AreSound self }
+        requires in_bounds { bodies_length self.edition (units_in self) ≤ length part.old }
+        ensures { part.new ≡ over (bodies_of self.entry.edition (units_in self.entry)) part.old }
+    {
+        let mut at = 0;
+        for i in 0..self.count() {
+            let u = self.unit(i);
+            write_body(&mut part[at..], self.edition, u);
+            at += body_length(self.edition, u);
+        }
     }
-    let length = file_length(edition, rows, b1, n);
-    if file.len() < length {
-        return Packed::Refused(Refusal::FileBufferTooShort);
+
+    // Writes the file of a demand and the rows to the start of `file`.
+    #[inline(never)]
+    fn write_file(self, file: &mut [u8], demand: u32)
+        requires sound { AreSound self }
+        requires in_bounds { 8 + 4 * row_count self + bodies_length self.edition (units_in self) ≤ length file.old }
+        ensures { file.new ≡ over (file_in self.entry.edition demand (units_in self.entry)) file.old }
+    {
+        let n = self.count();
+        write_head(file, self.edition, n, demand);
+        self.write_contents(&mut file[8..]);
+        let bodies = 8 + 4 * n;
+        self.write_bodies(&mut file[bodies..]);
     }
-    write_file(file, edition, demand, rows, b1, n);
-    Packed::Written(length)
+
+    // The length of the file of a demand and the rows, which it writes to the start of `file`.
+    // (What is inlined here and what is not is for the stack of a call, which the header bounds: the checks go deepest.)
+    #[inline(always)]
+    fn pack(&self, demand: u32, file: &mut [u8]) -> Result<usize, Refusal>
+        ensures { packed_in self.now.edition demand self.now.numbers.now self.now.b1.now file.old ≡ record { answer = result; file = file.new } }
+    {
+        if self.invalid() {
+            return Err(Refusal::RowsInvalid);
+        }
+        if demand > 320000 {
+            return Err(Refusal::DemandOutOfRange);
+        }
+        self.check()?;
+        let length = self.file_length();
+        let short = file.len() < length;
+        if short {
+            return Err(Refusal::FileBufferTooShort);
+        }
+        self.write_file(file, demand);
+        Ok(length)
+    }
 }
 
 // The length of the file of edition 1, of a demand and rows, which it writes to the start of `file`.
-pub fn pack(demand: u32, rows: &[u32], file: &mut [u8]) -> Packed
+pub fn pack(demand: u32, rows: &[u32], file: &mut [u8]) -> Result<usize, Refusal>
     ensures { packed demand rows.now file.old ≡ record { answer = result; file = file.new } }
 {
-    let none = [0i32; 1];
-    pack_in(1, demand, rows, &none[..0], file)
+    let rows = Rows {
+        edition: 1,
+        numbers: rows,
+        b1: &[],
+    };
+    rows.pack(demand, file)
 }
 
 // The length of the file of edition 2, of a demand, rows and a b1 for each, which it writes to the start of `file`.
-pub fn pack2(demand: u32, rows: &[u32], b1: &[i32], file: &mut [u8]) -> Packed
+pub fn pack2(demand: u32, rows: &[u32], b1: &[i32], file: &mut [u8]) -> Result<usize, Refusal>
     ensures { packed2 demand rows.now b1.now file.old ≡ record { answer = result; file = file.new } }
 {
-    pack_in(2, demand, rows, b1, file)
+    let rows = Rows {
+        edition: 2,
+        numbers: rows,
+        b1,
+    };
+    rows.pack(demand, file)
 }

@@ -1,64 +1,78 @@
-// Reading a unit from a planner's row, and its b1 from the list beside the rows.
-ghost use Rattle.std.specs.Prelude.{◌≡◌, ◌+◌, ◌*◌, ◌≤◌, pos, length, get_or, take, drop};
+// A planner's rows, with a b1 for each beside them in edition 2, and reading a unit from them.
+ghost use Rattle.std.specs.Prelude.{◌≡◌, ◌<◌, pos, get_or};
 ghost use Rattle.rules.specs.Unit.{with_loss};
-ghost use Rattle.rules.specs.Layout.{unit_of_row, unit_in_row};
+ghost use Rattle.rules.specs.Layout.{unit_of_row};
 ghost use Rattle.unit.specs.UnitHeld.{unit_held};
+ghost use Rattle.packing.specs.Clauses.{row_count, unit_in};
 
 use unit::Unit;
 
-// The edges of a row.
-fn row_edges(row: &[u32]) -> [u32; 8]
-    requires { length row.now ≡ 19 }
-    ensures { result ≡ take 8 (drop 11 row.now) }
-{
-    let mut edges = [0u32; 8];
-    let mut k = 0;
-    while k < 8 {
-        edges[k] = row[11 + k];
-        k += 1;
-    }
-    edges
+#[derive(Clone, Copy)]
+pub struct Rows<'a> {
+    pub edition: u16,
+    pub numbers: &'a [u32],
+    pub b1: &'a [i32],
 }
 
 // The numbers of one row, and a b1, which no row has.
-fn row_numbers(row: &[u32], b1: i32) -> Unit
-    requires { length row.now ≡ 19 }
+fn row_numbers(row: &[u32; 19], b1: i32) -> Unit
     ensures { unit_held result ≡ with_loss (unit_of_row row.now) b1 }
 {
-    let edges = row_edges(row);
-    Unit {
-        c0: row[0],
-        c1: row[1],
-        c2: row[2],
-        b: row[3],
+    let [
+        c0,
+        c1,
+        c2,
+        b,
+        least,
+        greatest,
+        previous,
+        up,
+        down,
+        mark,
+        zone_count,
+        ..
+    ] = *row;
+    let mut unit = Unit {
+        c0,
+        c1,
+        c2,
+        b,
         b1,
-        least: row[4],
-        greatest: row[5],
-        previous: row[6],
-        up: row[7],
-        down: row[8],
-        mark: row[9],
-        zone_count: row[10],
-        edges,
-    }
+        least,
+        greatest,
+        previous,
+        up,
+        down,
+        mark,
+        zone_count,
+        edges: [0; 8],
+    };
+    // (Copied: `edges @ ..` in the pattern gets no generated proof.)
+    unit.edges.copy_from_slice(&row[11..]);
+    unit
 }
 
 // The b1 of row `i`, 0 where the list has none.
 fn linear_loss(b1: &[i32], i: usize) -> i32
     ensures { result ≡ get_or b1.now i (pos 0) }
 {
-    if i < b1.len() {
-        return b1[i];
-    }
-    0
+    b1.get(i).copied().unwrap_or(0)
 }
 
-// Row `i`, with its b1.
-pub fn read_row(rows: &[u32], b1: &[i32], i: usize) -> Unit
-    requires { 19 * i + 19 ≤ length rows.now }
-    ensures { unit_held result ≡ unit_in_row rows.now b1.now i }
-{
-    let at = 19 * i;
-    let end = at + 19;
-    row_numbers(&rows[at..end], linear_loss(b1, i))
+impl Rows<'_> {
+    // How many rows there are.
+    pub fn count(self) -> usize
+        ensures { result ≡ row_count self.entry }
+    {
+        self.numbers.len() / 19
+    }
+
+    // The unit of row `i`, with its b1.
+    pub fn unit(self, i: usize) -> Unit
+        requires { i < row_count self }
+        ensures { unit_held result ≡ unit_in self.entry i }
+    {
+        let (rows, _) = self.numbers.as_chunks::<19>();
+        row_numbers(&rows[i], linear_loss(self.b1, i))
+    }
 }

@@ -1,58 +1,51 @@
--- The call as C sees it, by whether its answer has a place: without one the call gets no file, refuses it and writes nothing.
-use mathlib.Core.Path.{◌≡◌, refl, sym, ap, ap₂, ◌∙◌}
-use Prim.Native.Nat.{ℕ, zero, suc}
+-- The call of a day as C sees it, by whether its answer has a place.
+use mathlib.Core.Path.{◌≡◌, refl, sym, ap, ◌∙◌}
+use Prim.Native.Nat.{ℕ, ◌≤◌, ◌<◌}
 use native.Mathlib.Omega.{arith}
-use mathlib.Core.List.{List, []}
-use lib.IntN.{ℤ}
-use lib.ListN.{length}
+use mathlib.Core.List.{List, [], ◌∷◌}
+use lib.IntN.{ℤ, pos}
+use lib.ListN.{length, set}
+use mir.Syntax.{w64}
+use mir.Val.{to_z}
+use mir.ValLaws.{to_z_pos}
 use borrow.Author.Tests.{lt-ltb, le-ltb}
-use Rattle.rules.specs.declared.Verdict.{Verdict}
-use Rattle.rules.proofs.Encoding.SoundFile.{sound-file}
+use Rattle.std.specs.Prelude.{Result, Ok, Err}
+use Rattle.rules.specs.Lists.{over}
+use Rattle.rules.specs.Refusal.{number_of}
+use Rattle.rules.specs.declared.Refusal.{Refusal}
+use Rattle.rules.specs.declared.Refusal.TheVariants.{BufferTooShort}
 use Rattle.day.specs.declared.History.{History}
-use Rattle.day.specs.declared.Scheduled.{Scheduled}
-use Rattle.day.specs.Day.{day_verdict, DayResult, day_ends, scheduled, number_of_scheduled, answers_of_scheduled, PanelDayResult, panel_scheduled}
-use Rattle.day.proofs.Opens.{accepts-day}
-use Rattle.panel.specs.DayTold.{file_for, number_told, answers_in, answers_told}
-
--- no file is never accepted
-none-refused : (v : Verdict) (demands : List ℕ) (room records : ℕ) → day_verdict [] demands room records ≡ v → v ≡ Verdict.Accepted → ⊥
-none-refused v demands room records e a = let s = (sound-file []).0 (accepts-day [] demands room records (e ∙ a)).accepted in omega (arith, s.head.long)
-
-left_alone : (v : Verdict) (file demands trace : List ℕ) (histories : List History) → (v ≡ Verdict.Accepted → ⊥) → ((day_ends v file demands trace histories).trace ≡ trace) × ((day_ends v file demands trace histories).histories ≡ histories)
-unfolding day_ends
-left_alone Verdict.Accepted file demands trace histories n = absurd (n refl)
-left_alone (Verdict.Refused r) file demands trace histories n = (refl, refl)
+use Rattle.day.specs.Clauses.{total_of}
+use Rattle.day.specs.Day.{DayResult, day_ends, scheduled, number_of_scheduled, answers_of_scheduled, PanelDayResult, panel_scheduled}
 
 -- what is told of a result
 abbrev told_as : DayResult → List ℤ → PanelDayResult
 told_as d answers = record { number = number_of_scheduled d.answer; trace = d.trace; histories = d.histories; answers = answers_of_scheduled d.answer answers }
 
-with_place : (file demands trace : List ℕ) (histories : List History) (answers : List ℤ) (room : ℕ) → length answers ≡ suc room → panel_scheduled file demands trace histories answers ≡ told_as (scheduled file demands trace histories) answers
-unfolding panel_scheduled scheduled
-with_place file demands trace histories answers room e = rw (le-ltb (length answers) 1 (omega (arith, e))) refl
+-- a total written to the first place
+pub total-written : (answers : List ℤ) (z : ℤ) → 1 ≤ length answers → set answers 0 z ≡ over (z ∷ []) answers
+total-written [] z h = absurd (omega arith)
+total-written (x ∷ answers) z h = refl
 
-without_place : (file demands trace : List ℕ) (histories : List History) (answers : List ℤ) → length answers ≡ 0 → panel_scheduled file demands trace histories answers ≡ record { number = 1; trace = trace; histories = histories; answers = answers }
-unfolding panel_scheduled day_ends
-without_place file demands trace histories answers e = rw (lt-ltb (length answers) 1 (omega (arith, e))) refl
+module _ (file demands trace : List ℕ) (histories : List History) (answers : List ℤ) where
+  pub without_place : length answers < 1 → panel_scheduled file demands trace histories answers ≡ record { number = number_of BufferTooShort; trace = trace; histories = histories; answers = answers }
+  unfolding panel_scheduled day_ends
+  without_place h = rw (lt-ltb (length answers) 1 h) refl
 
-told_in : (room : ℕ) (file demands trace : List ℕ) (histories : List History) (answers : List ℤ) → length answers ≡ room → (x : List ℕ) (s : Scheduled) (ts : List ℕ) (zs : List History) (r : ℕ) (l : List ℤ) → x ≡ file_for file room → scheduled x demands trace histories ≡ record { answer = s; trace = ts; histories = zs } → r ≡ number_told s room → l ≡ answers_in s room answers
-    → panel_scheduled file demands trace histories answers ≡ record { number = r; trace = ts; histories = zs; answers = l }
-unfolding scheduled
-told_in zero file demands trace histories answers e x s ts zs r l ex ed er el =
-    let v = day_verdict [] demands (length trace) (length histories) in
-    let k = left_alone v [] demands trace histories (none-refused v demands (length trace) (length histories) refl) in
-    let d : day_ends v [] demands trace histories ≡ record { answer = s; trace = ts; histories = zs } = ap (λ (y : List ℕ). scheduled y demands trace histories) (sym ex) ∙ ed in
-    let t : trace ≡ ts = sym k.0 ∙ ap (λ (y : DayResult). y.trace) d in
-    let h : histories ≡ zs = sym k.1 ∙ ap (λ (y : DayResult). y.histories) d in
-    without_place file demands trace histories answers e
-    ∙ ap₂ (λ (y : List ℕ) (z : List History). record { number = 1; trace = y; histories = z; answers = answers }) t h
-    ∙ ap₂ (λ (m : ℕ) (z : List ℤ). record { number = m; trace = ts; histories = zs; answers = z }) (sym er) (sym el)
-told_in (suc room) file demands trace histories answers e x s ts zs r l ex ed er el =
-    let d : scheduled file demands trace histories ≡ record { answer = s; trace = ts; histories = zs } = ap (λ (y : List ℕ). scheduled y demands trace histories) (sym ex) ∙ ed in
-    with_place file demands trace histories answers room e
-    ∙ ap (λ (y : DayResult). told_as y answers) d
-    ∙ ap₂ (λ (m : ℕ) (z : List ℤ). record { number = m; trace = ts; histories = zs; answers = z }) (sym er) (sym el)
+  module _ (place : 1 ≤ length answers) where
+    with_place : {d : DayResult} → scheduled file demands trace histories ≡ d → panel_scheduled file demands trace histories answers ≡ told_as d answers
+    unfolding panel_scheduled scheduled
+    with_place e = rw (le-ltb (length answers) 1 place) (ap (λ (d : DayResult). told_as d answers) e)
 
-pub is-told : (file demands trace : List ℕ) (histories : List History) (answers : List ℤ) (x : List ℕ) (s : Scheduled) (ts : List ℕ) (zs : List History) (r : ℕ) (l : List ℤ) → x ≡ file_for file (length answers) → scheduled x demands trace histories ≡ record { answer = s; trace = ts; histories = zs } → r ≡ number_told s (length answers) → l ≡ answers_told s answers
-    → panel_scheduled file demands trace histories answers ≡ record { number = r; trace = ts; histories = zs; answers = l }
-is-told file demands trace histories answers = told_in (length answers) file demands trace histories answers refl
+    module _ {s : Result ℕ Refusal} {ts : List ℕ} {hs : List History} (e : scheduled file demands trace histories ≡ record { answer = s; trace = ts; histories = hs }) where
+      with_answer : {x : Result ℕ Refusal} → s ≡ x → panel_scheduled file demands trace histories answers ≡ told_as (record { answer = x; trace = ts; histories = hs }) answers
+      with_answer f = with_place e ∙ ap (λ (x : Result ℕ Refusal). told_as (record { answer = x; trace = ts; histories = hs }) answers) f
+
+      pub refused-told : {r : Refusal} → s ≡ Err r → panel_scheduled file demands trace histories answers ≡ record { number = number_of r; trace = ts; histories = hs; answers = answers }
+      refused-told f = with_answer f
+
+      pub total-told : total_of s ≤ 617472000000000 → {t : ℕ} → s ≡ Ok t → panel_scheduled file demands trace histories answers ≡ record { number = 0; trace = ts; histories = hs; answers = set answers 0 (to_z w64 t) }
+      total-told b {t} f =
+          let small : total_of s ≡ t = ap total_of f in
+          let written : set answers 0 (to_z w64 t) ≡ over (pos t ∷ []) answers = ap (set answers 0) (to_z_pos w64 t (omega (arith, b, small))) ∙ total-written answers (pos t) place in
+          with_answer f ∙ ap (λ (zs : List ℤ). record { number = 0; trace = ts; histories = hs; answers = zs }) (sym written)

@@ -1,8 +1,14 @@
 -- What the code requires of a lent list and of what is written into it.
-use Rattle.std.specs.Prelude.{ℕ, ◌≤◌, List, ℤ, length}
+use Rattle.std.specs.Prelude.{◌≤◌, List, ℤ, length, Option, Some, None, ⊤}
 use Rattle.judging.specs.Clauses.{SmallAnswer}
+use Rattle.judging.specs.declared.Judgement.{Judgement}
 
--- room for four answers, and numbers that signed 64 bits hold
-pub record Answerable (answers : List ℤ) (c s d : ℕ) : Type 0 where
+-- numbers that signed 64 bits hold
+abbrev pub Small : Option Judgement → Type 0
+Small (Some j) = SmallAnswer j.cost j.surplus j.distance
+Small None = ⊤
+
+-- room for four answers, and such numbers
+pub record Answerable (answers : List ℤ) (j : Option Judgement) : Type 0 where
   pub room : 4 ≤ length answers
-  pub small : SmallAnswer c s d
+  pub small : Small j

@@ -3,34 +3,40 @@
 // declares them.
 #![tactic(auto)]
 
-ghost use Rattle.std.specs.Prelude.{◌≡◌, cond, [], ◌∷◌, ℕ, ◌≤◌, pos, length};
+ghost use Rattle.std.specs.Prelude.{◌≡◌, ℕ, ◌≤◌, length, Ok};
 ghost use Rattle.answering.specs.Answers.{panel_started, panel_advanced, panel_asked};
 ghost use Rattle.branching.specs.Refining.{panel_refined};
-ghost use Rattle.rules.specs.Calls.{number_of_dispatched, number_of_packed, panel_dispatched, panel_priced, panel_packed, panel_packed_2, panel_unpacked};
-ghost use Rattle.rules.specs.Lists.{over};
+ghost use Rattle.rules.specs.Calls.{number_of_dispatched, panel_dispatched, panel_priced, panel_packed, panel_packed_2, panel_unpacked};
 ghost use Rattle.modbus.specs.View.{panel_viewed};
-ghost use Rattle.judging.specs.Judging.{panel_judged};
+ghost use Rattle.judging.specs.Judging.{answers_of_judged, panel_judged};
 ghost use Rattle.sensitivity.specs.Floors.{panel_floored};
 ghost use Rattle.day.specs.Day.{panel_scheduled};
-ghost use Rattle.day.specs.Clauses.{total_of};
 ghost use Rattle.telling.specs.Told.{panel_gencost};
 ghost use Rattle.panel.specs.Clauses.{Answerable};
-ghost use Rattle.panel.specs.DayTold.{file_for, number_told, answers_told};
+ghost use Rattle.panel.specs.DayTold.{number_told};
 
-use day::{History, Scheduled};
-use judging::Judged;
-use modbus::Viewed;
-use rules::{Dispatched, Packed, Priced, Refusal, Unpacked};
-use sensitivity::Floored;
+use day::History;
+use judging::Judgement;
+use rules::{Priced, Refusal, Unpacked};
 
-// A reply's length, or the number of the refusal.
-fn number_of(answer: Dispatched) -> u32
-    requires { (n : ℕ) → answer ≡ Dispatched.Replied n → n ≤ 94 }
+// The length of what is written, or the number of the refusal.
+fn number_of(answer: Result<usize, Refusal>) -> u32
+    requires { (n : ℕ) → answer ≡ Ok n → n ≤ 1608 }
     ensures { result ≡ number_of_dispatched answer }
 {
     match answer {
-        Dispatched::Replied(length) => length as u32,
-        Dispatched::Refused(r) => refusal_number::number(r),
+        Ok(length) => length as u32,
+        Err(r) => refusal_number::number(r),
+    }
+}
+
+// 0, or the number of the refusal.
+fn number_told(answer: Result<(), Refusal>) -> u32
+    ensures { result ≡ number_told answer }
+{
+    match answer {
+        Ok(()) => 0,
+        Err(refusal) => refusal_number::number(refusal),
     }
 }
 
@@ -38,88 +44,88 @@ fn number_of(answer: Dispatched) -> u32
 pub extern "C" fn shahfureel_dispatch(file: &[u8], reply: &mut [u8]) -> u32
     ensures { panel_dispatched file.now reply.old ≡ record { number = result; reply = reply.new } }
 {
-    let answer = dispatching::dispatch(file, reply);
-    number_of(answer)
+    number_of(dispatching::dispatch(file, reply))
 }
 
 #[unsafe(no_mangle)]
 pub extern "C" fn shahfureel_refine(file: &[u8], budget: u32, reply: &mut [u8]) -> u32
     ensures { panel_refined file.now budget reply.old ≡ record { number = result; reply = reply.new } }
 {
-    let answer = refining::refine(file, budget, reply);
-    number_of(answer)
+    number_of(refining::refine(file, budget, reply))
 }
 
-fn flag(b: bool) -> i64
-    ensures { result ≡ cond b (pos 1) (pos 0) }
+// A price: its value goes to the first of the answers, and whether its choices cover to the second.
+fn write_priced(file: &[u8], m: u32, answers: &mut [i64]) -> Result<(), Refusal>
+    ensures { panel_priced file.now m answers.old ≡ record { number = number_told result; answers = answers.new } }
 {
-    if b { 1 } else { 0 }
+    if m > 65536 {
+        return Err(Refusal::MultiplierOutOfRange);
+    }
+    if answers.len() < 2 {
+        return Err(Refusal::BufferTooShort);
+    }
+    let Priced { dual, covers } = pricing::price(file, m)?;
+    answers[0] = dual;
+    answers[1] = i64::from(covers);
+    Ok(())
 }
 
 #[unsafe(no_mangle)]
 pub extern "C" fn shahfureel_price(file: &[u8], m: u32, answers: &mut [i64]) -> u32
     ensures { panel_priced file.now m answers.old ≡ record { number = result; answers = answers.new } }
 {
-    if m > 65536 {
-        return refusal_number::number(Refusal::MultiplierOutOfRange);
-    }
-    if answers.len() < 2 {
-        return refusal_number::number(Refusal::BufferTooShort);
-    }
-    let answer = pricing::price(file, m);
-    match answer {
-        Priced::Refused(r) => refusal_number::number(r),
-        Priced::Valued { dual, covers } => {
-            answers[0] = dual;
-            answers[1] = flag(covers);
-            0
-        }
-    }
-}
-
-// A packed file's length, or the number of the refusal.
-fn file_number_of(answer: Packed) -> u32
-    requires { (n : ℕ) → answer ≡ Packed.Written n → n ≤ 1608 }
-    ensures { result ≡ number_of_packed answer }
-{
-    match answer {
-        Packed::Written(length) => length as u32,
-        Packed::Refused(r) => refusal_number::number(r),
-    }
+    number_told(write_priced(file, m, answers))
 }
 
 #[unsafe(no_mangle)]
 pub extern "C" fn shahfureel_pack(demand: u32, rows: &[u32], file: &mut [u8]) -> u32
     ensures { panel_packed demand rows.now file.old ≡ record { number = result; file = file.new } }
 {
-    let answer = packing::pack(demand, rows, file);
-    file_number_of(answer)
+    number_of(packing::pack(demand, rows, file))
 }
 
 #[unsafe(no_mangle)]
 pub extern "C" fn shahfureel_pack2(demand: u32, rows: &[u32], b1: &[i32], file: &mut [u8]) -> u32
     ensures { panel_packed_2 demand rows.now b1.now file.old ≡ record { number = result; file = file.new } }
 {
-    let answer = packing::pack2(demand, rows, b1, file);
-    file_number_of(answer)
+    number_of(packing::pack2(demand, rows, b1, file))
+}
+
+// A file unpacked: its demand and its number of units go to the first two of the answers.
+fn write_unpacked(file: &[u8], rows: &mut [u32], answers: &mut [i64]) -> Result<(), Refusal>
+    ensures { panel_unpacked file.now rows.old answers.old ≡ record { number = number_told result; rows = rows.new; answers = answers.new } }
+{
+    if answers.len() < 2 {
+        return Err(Refusal::BufferTooShort);
+    }
+    let Unpacked { demand, count } = unpacking::unpack(file, rows)?;
+    answers[0] = demand as i64;
+    answers[1] = count as i64;
+    Ok(())
 }
 
 #[unsafe(no_mangle)]
 pub extern "C" fn shahfureel_unpack(file: &[u8], rows: &mut [u32], answers: &mut [i64]) -> u32
     ensures { panel_unpacked file.now rows.old answers.old ≡ record { number = result; rows = rows.new; answers = answers.new } }
 {
-    if answers.len() < 2 {
-        return refusal_number::number(Refusal::BufferTooShort);
+    number_told(write_unpacked(file, rows, answers))
+}
+
+// An answer to a request, whose length goes to the first of the lengths.
+fn write_viewed(
+    reply: &[u8],
+    request: &[u8],
+    answer: &mut [u8],
+    lengths: &mut [i64],
+) -> Result<(), Refusal>
+    ensures { panel_viewed reply.now request.now answer.old lengths.old ≡ record { number = number_told result; bytes = answer.new; lengths = lengths.new } }
+{
+    if lengths.is_empty() {
+        return Err(Refusal::BufferTooShort);
     }
-    let answer = unpacking::unpack(file, rows);
-    match answer {
-        Unpacked::Refused(r) => refusal_number::number(r),
-        Unpacked::Read { demand, count } => {
-            answers[0] = demand as i64;
-            answers[1] = count as i64;
-            0
-        }
-    }
+    let length = modbus::view(reply, request, answer)?;
+    lengths[0] = length as i64;
+    Ok(())
 }
 
 #[unsafe(no_mangle)]
@@ -131,53 +137,56 @@ pub extern "C" fn shahfureel_view(
 ) -> u32
     ensures { panel_viewed reply.now request.now answer.old lengths.old ≡ record { number = result; bytes = answer.new; lengths = lengths.new } }
 {
-    if lengths.len() < 1 {
-        return refusal_number::number(Refusal::BufferTooShort);
-    }
-    let viewed = modbus::view(reply, request, answer);
-    match viewed {
-        Viewed::Refused(r) => refusal_number::number(r),
-        Viewed::Answered(length) => {
-            lengths[0] = length as i64;
-            0
-        }
-    }
+    number_told(write_viewed(reply, request, answer, lengths))
 }
 
 // Writes the four answers of a judgement to the start of a list.
-fn write_judgement(answers: &mut [i64], accepted: bool, cost: u64, surplus: u64, distance: u64)
-    requires { Answerable answers.old cost surplus distance }
-    ensures { answers.new ≡ over (cond accepted (pos 1) (pos 0) ∷ pos cost ∷ pos surplus ∷ pos distance ∷ []) answers.old }
+fn write_judgement(answers: &mut [i64], judgement: Option<Judgement>)
+    requires { Answerable answers.old judgement }
+    ensures { answers.new ≡ answers_of_judged (Ok judgement) answers.old }
 {
-    answers[0] = flag(accepted);
-    answers[1] = cost as i64;
-    answers[2] = surplus as i64;
-    answers[3] = distance as i64;
+    let told = match judgement {
+        Some(j) => [1, j.cost as i64, j.surplus as i64, j.distance as i64],
+        None => [0; 4],
+    };
+    answers[..4].copy_from_slice(&told);
+}
+
+// A judgement: its numbers go to the first four of the answers.
+#[tactic(auto, using(crate::proofs::Answers::judge_short))]
+fn write_judged(file: &[u8], outputs: &[u32], answers: &mut [i64]) -> Result<(), Refusal>
+    ensures { panel_judged file.now outputs.now answers.old ≡ record { number = number_told result; answers = answers.new } }
+{
+    if answers.len() < 4 {
+        return Err(Refusal::BufferTooShort);
+    }
+    let judgement = judging::judge(file, outputs)?;
+    write_judgement(answers, judgement);
+    Ok(())
 }
 
 #[unsafe(no_mangle)]
 pub extern "C" fn shahfureel_judge(file: &[u8], outputs: &[u32], answers: &mut [i64]) -> u32
     ensures { panel_judged file.now outputs.now answers.old ≡ record { number = result; answers = answers.new } }
 {
-    if answers.len() < 4 {
-        return refusal_number::number(Refusal::BufferTooShort);
+    number_told(write_judged(file, outputs, answers))
+}
+
+// The floors of some demands, whose number goes to the first of the answers.
+fn write_floored(
+    file: &[u8],
+    demands: &[u32],
+    floors: &mut [i64],
+    answers: &mut [i64],
+) -> Result<(), Refusal>
+    ensures { panel_floored file.now demands.now floors.old answers.old ≡ record { number = number_told result; floors = floors.new; answers = answers.new } }
+{
+    if answers.is_empty() { // no place for the number
+        return Err(Refusal::BufferTooShort);
     }
-    let judged = judging::judge(file, outputs);
-    match judged {
-        Judged::Refused(r) => refusal_number::number(r),
-        Judged::NotAccepted => {
-            write_judgement(answers, false, 0, 0, 0);
-            0
-        }
-        Judged::Accepted {
-            cost,
-            surplus,
-            distance,
-        } => {
-            write_judgement(answers, true, cost, surplus, distance);
-            0
-        }
-    }
+    let count = sensitivity::floors(file, demands, floors)?;
+    answers[0] = count as i64;
+    Ok(())
 }
 
 #[unsafe(no_mangle)]
@@ -189,44 +198,25 @@ pub extern "C" fn shahfureel_floors(
 ) -> u32
     ensures { panel_floored file.now demands.now floors.old answers.old ≡ record { number = result; floors = floors.new; answers = answers.new } }
 {
-    if answers.len() < 1 {
-        return refusal_number::number(Refusal::BufferTooShort);
-    }
-    let floored = sensitivity::floors(file, demands, floors);
-    match floored {
-        Floored::Refused(r) => refusal_number::number(r),
-        Floored::Written(count) => {
-            answers[0] = count as i64;
-            0
-        }
-    }
+    number_told(write_floored(file, demands, floors, answers))
 }
 
-// The file, or none of it where the total has no place: then the call refuses it and writes nothing.
-fn file_for<'a>(file: &'a [u8], room: usize) -> &'a [u8]
-    ensures { result.now ≡ file_for file.now room }
+// A day whose total goes to the first of the answers; a list without a place for it is refused before every other check.
+fn plan_day(
+    file: &[u8],
+    demands: &[u32],
+    trace: &mut [u8],
+    histories: &mut [History],
+    answers: &mut [i64],
+) -> Result<(), Refusal>
+    ensures { panel_scheduled file.now demands.now trace.old histories.old answers.old ≡ record { number = number_told result; trace = trace.new; histories = histories.new; answers = answers.new } }
 {
-    if room < 1 {
-        return &file[..0];
+    if answers.is_empty() { // no place for the total
+        return Err(Refusal::BufferTooShort); // no place for the total
     }
-    file
-}
-
-// Writes the total, if there is one and a place for it, and gives the number.
-fn tell(s: Scheduled, answers: &mut [i64]) -> u32
-    requires { total_of s ≤ 617472000000000 }
-    ensures { (result ≡ number_told s (length answers.old)) × (answers.new ≡ answers_told s answers.old) }
-{
-    if 1 > answers.len() {
-        return 1;
-    }
-    match s {
-        Scheduled::Refused(r) => refusal_number::number(r),
-        Scheduled::Total(t) => {
-            answers[0] = t as i64;
-            0
-        }
-    }
+    let total = day::day(file, demands, trace, histories)?;
+    answers[0] = total as i64;
+    Ok(())
 }
 
 #[unsafe(no_mangle)]
@@ -239,9 +229,7 @@ pub extern "C" fn shahfureel_day(
 ) -> u32
     ensures { panel_scheduled file.now demands.now trace.old histories.old answers.old ≡ record { number = result; trace = trace.new; histories = histories.new; answers = answers.new } }
 {
-    let own = file_for(file, answers.len());
-    let s = day::day(own, demands, trace, histories);
-    tell(s, answers)
+    number_told(plan_day(file, demands, trace, histories, answers))
 }
 
 #[unsafe(no_mangle)]
@@ -264,13 +252,14 @@ pub extern "C" fn shahfureel_run_advance(
 ) -> u32
     ensures { panel_advanced numbers.old held.now file.now answers.old ≡ record { number = result; numbers = numbers.new; answers = answers.new } }
 {
-    if answers.len() == 0 {
+    if answers.is_empty() {
         return refusal_number::number(Refusal::BufferTooShort);
     }
     answering::tell_advanced(stepping::advance(numbers, held, file), answers)
 }
 
 #[unsafe(no_mangle)]
+#[tactic(auto, using(crate::proofs::Answers::ask_short))]
 pub extern "C" fn shahfureel_run_ask(numbers: &[u64; 41], answers: &mut [i64]) -> u32
     ensures { panel_asked numbers.now answers.old ≡ record { number = result; answers = answers.new } }
 {
@@ -282,6 +271,7 @@ pub extern "C" fn shahfureel_run_ask(numbers: &[u64; 41], answers: &mut [i64]) -
 }
 
 #[unsafe(no_mangle)]
+#[tactic(auto, using(telling::proofs::Told::gencost_short))]
 pub extern "C" fn shahfureel_gencost(row: &[u8], answers: &mut [i64]) -> u32
     ensures { panel_gencost row.now answers.old ≡ record { number = result; answers = answers.new } }
 {

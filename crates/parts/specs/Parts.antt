@@ -1,6 +1,6 @@
 -- Rules 26.1 to 26.11 of docs/SPECIFICATION.md. Lower bounds of a case from other cases, one for each part of its allocations. (Proved in proofs/Claims.)
 -- The idea is a Lagrangian relaxation of each part. In a part three inequalities hold (by branching, or as valid inequalities): the total output is at most M, the number of running units at most R and at least r. The costs of another case contain the multipliers of these, so that with them it costs no more than the case does in the part; hence a lower bound of the other case gives one of the part. Branch and bound puts the parts together: the lesser of two bounds is one of both parts.
-use Rattle.std.specs.Prelude.{ℕ, ◌+◌, ◌*◌, ◌-◌, ◌≤◌, min, true, cond, List, [], ◌∷◌, map, ◌≡◌, eqb, pos, get_or}
+use Rattle.std.specs.Prelude.{ℕ, ◌+◌, ◌*◌, ◌-◌, ◌≤◌, min, true, cond, List, [], ◌∷◌, map, ◌≡◌, eqb, pos, get_or, Ok, Err}
 use Rattle.rules.specs.Lists.{sum, True, Pairwise}
 use Rattle.rules.specs.Unit.{Unit, permitted, cost, net}
 use Rattle.rules.specs.Regions.{Region}
@@ -9,8 +9,6 @@ use Rattle.rules.specs.Problem.{total_cost}
 use Rattle.rules.specs.Promise.{Permitted, Covering}
 use Rattle.rules.specs.declared.Refusal.TheVariants.{NoAllocation}
 use Rattle.rules.specs.Refusal.{file_verdict}
-use Rattle.rules.specs.declared.Verdict.{Verdict}
-use Rattle.rules.specs.declared.Dispatched.{Dispatched}
 use Rattle.branching.specs.Refining.{refined_in, refined}
 use Rattle.branching.specs.Claims.{Asked}
 
@@ -153,12 +151,12 @@ pub record PartsTogether : Type 1 where
 
 abbrev pub RefinedBound : Type 0
 RefinedBound =
-    (file : List ℕ) (budget : ℕ) (reply : List ℕ) → file_verdict file ≡ Verdict.Accepted → Asked budget reply
-    → ¬ ((refined file budget reply).answer ≡ Dispatched.Refused NoAllocation)
+    (file : List ℕ) (budget : ℕ) (reply : List ℕ) → file_verdict file ≡ Ok tt → Asked budget reply
+    → ¬ ((refined file budget reply).answer ≡ Err NoAllocation)
     → LowerBound (case_of file) ((refined_in (refined file budget reply).reply).cost - (refined_in (refined file budget reply).reply).gap)
 
 abbrev pub RefusedUncoverable : Type 0
 RefusedUncoverable =
-    (file : List ℕ) (budget : ℕ) (reply : List ℕ) → file_verdict file ≡ Verdict.Accepted → Asked budget reply
-    → (refined file budget reply).answer ≡ Dispatched.Refused NoAllocation
+    (file : List ℕ) (budget : ℕ) (reply : List ℕ) → file_verdict file ≡ Ok tt → Asked budget reply
+    → (refined file budget reply).answer ≡ Err NoAllocation
     → Uncoverable (case_of file)

@@ -4,46 +4,27 @@
 ghost use Rattle.std.specs.Prelude.{◌≡◌};
 ghost use Rattle.rules.specs.Calls.{priced};
 
-use evaluation::{Evaluated, FirstBest, Sums, dual_of, evaluate, first_best};
+use evaluation::{Evaluated, Sums, dual_of, evaluate, first_best};
 use rules::{Priced, Refusal};
+use site::Site;
 
 // The dual value of multiplier `m`, and whether its choices cover the demand.
-pub fn price(file: &[u8], m: u32) -> Priced
+#[tactic(auto, using(evaluation::proofs::Covering::multiplier_refused))]
+pub fn price(file: &[u8], m: u32) -> Result<Priced, Refusal>
     ensures { result ≡ priced file.now m }
 {
     if m > 65536 {
-        return Priced::Refused(Refusal::MultiplierOutOfRange);
+        return Err(Refusal::MultiplierOutOfRange);
     }
-    let mut coefficients = [0u64; 160];
-    let mut ends = [0u16; 384];
-    let mut ranges = [0u8; 64];
+    let mut site = Site::empty();
     let mut outputs = [0u16; 32];
-    let first = first_best(
-        file,
-        &mut coefficients,
-        &mut ends,
-        &mut ranges,
-        &mut outputs,
-    );
-    match first {
-        FirstBest::Refused(r) => Priced::Refused(r),
-        FirstBest::Found { count, target, .. } => {
-            let x = m as u64;
-            let mut choices = [0u16; 32];
-            let mut least = [0u16; 32];
-            let Evaluated { cost, net, .. } = evaluate(
-                &coefficients,
-                &ends,
-                &ranges,
-                count,
-                x,
-                &mut choices,
-                &mut least,
-            );
-            Priced::Valued {
-                dual: dual_of(Sums { cost, net }, target, x),
-                covers: target <= net,
-            }
-        }
-    }
+    first_best(file, &mut site, &mut outputs)?;
+    let x = m as u64;
+    let mut choices = [0u16; 32];
+    let mut least = [0u16; 32];
+    let Evaluated { cost, net, .. } = evaluate(&site, x, &mut choices, &mut least);
+    Ok(Priced {
+        dual: dual_of(Sums { cost, net }, site.target, x),
+        covers: site.target <= net,
+    })
 }

@@ -1,4 +1,5 @@
 -- Refine by where it ends. The arrays hold the root of the file's search; a visit of it, from a best that is dearer than its dispatch, is the search; and what is stated of that is the reply.
+use Rattle.std.specs.Prelude.{Ok, Err}
 use Prim.Native.Nat.{ℕ, ◌+◌, ◌-◌, ◌≤◌, ◌<◌, min}
 use native.Mathlib.Omega.{arith}
 use mathlib.Core.Path.{◌≡◌, refl, sym, ap, subst, ◌∙◌}
@@ -13,8 +14,6 @@ use Rattle.rules.specs.Problem.{Problem, offer, problem_of, problem_in}
 use Rattle.rules.specs.Bisection.{Reply, solvable, solve}
 use Rattle.rules.specs.Calls.{case_verdict}
 use Rattle.rules.specs.declared.Refusal.{Refusal}
-use Rattle.rules.specs.declared.Verdict.{Verdict}
-use Rattle.rules.specs.declared.Dispatched.{Dispatched}
 use Rattle.rules.proofs.Lists.{length-each, get_or_each}
 use Rattle.rules.proofs.Demand3.{case-accepted}
 use Rattle.rules.proofs.Regions.{some-permitted}
@@ -78,9 +77,9 @@ module _ {file coefficients ends ranges outputs : List ℕ} {n t c w : ℕ} (f :
         permitted = some-permitted o.unit.sound;
       }
 
-  pub root-held : (budget : ℕ) → NodeHeld coefficients ends ranges (record { count = n; target = t; budget = budget }) (case_of file).demand (root (case_of file))
+  pub root-held : NodeHeld coefficients ends ranges n t (case_of file).demand (root (case_of file))
   unfolding problem_of
-  root-held budget =
+  root-held =
       record {
         node =
             record {
@@ -131,20 +130,20 @@ module _ {file coefficients ends ranges outputs : List ℕ} {n t c w : ℕ} (f :
       unfolding reply_of_search
       told_is = λ i. record { nodes = h.visited i; cost = h.cost i; gap = h.cost i - h.bound i; surplus = h.surplus i; outputs = h.outputs i }
 
-    pub refined-is : {x : code-node.Node} {r : code-progress.Progress} {best : List ℕ} → x.parent ≡ 0 → SumsAt (problem_at d (root (case_of file))).offers x → Visits coefficients ends ranges (record { count = n; target = t; budget = budget }) 160 x (record { visited = 0; cost = c + 1; surplus = 0; floor = c + 1 }) outputs r best → refined_held n (record { nodes = r.visited; cost = r.cost; gap = r.cost - min r.cost r.floor; surplus = r.surplus; outputs = best }) ≡ refined_reply budget (case_of file)
+    pub refined-is : {x : code-node.Node} {r : code-progress.Progress} {best : List ℕ} → x.parent ≡ 0 → SumsAt (problem_at d (root (case_of file))).offers x → Visits coefficients ends ranges n t budget 160 x (record { visited = 0; cost = c + 1; surplus = 0; floor = c + 1 }) outputs r best → refined_held n (record { nodes = r.visited; cost = r.cost; gap = r.cost - min r.cost r.floor; surplus = r.surplus; outputs = best }) ≡ refined_reply budget (case_of file)
     refined-is {x} {r} {best} top sums v =
         let start : HoldsProgress n begun (record { visited = 0; cost = c + 1; surplus = 0; floor = c + 1 }) outputs = record { visited = refl; cost = refl; surplus = refl; outputs = refl; bound = omega arith } in
-        let h = v.visits d (root (case_of file)) (root-held budget) sums begun start in
+        let h = v.visits d (root (case_of file)) root-held sums begun start in
         let same : visit (tree d) budget 160 x.parent (root (case_of file)) begun ≡ found = ap (λ (f : ℕ). visit (tree d) budget 160 f (root (case_of file)) begun) top ∙ from_first in
         told_is (subst (λ (s : Progress Reply). HoldsProgress n s r best) same h) ∙ sym (file_160 file f.site.accepted budget)
 
 -- ---- the ends
 
 module _ (file : List ℕ) (budget : ℕ) (reply : List ℕ) (asked : Asked budget reply) where
-  pub refused : (r : Refusal) → case_verdict file ≡ Verdict.Refused r → refined file budget reply ≡ record { answer = Dispatched.Refused r; reply = reply }
+  pub refused : (r : Refusal) → case_verdict file ≡ Err r → refined file budget reply ≡ record { answer = Err r; reply = reply }
   unfolding refine_ends
   refused r e = by-case file budget reply asked ∙ rw e
 
-  pub replied : case_verdict file ≡ Verdict.Accepted → (k : ℕ) (r : code-refined.Refined) → refined_held k r ≡ refined_reply budget (case_of file) → {l : ℕ} {s : List ℕ} → l ≡ length (refined_bytes (refined_held k r)) → s ≡ over (refined_bytes (refined_held k r)) reply → refined file budget reply ≡ record { answer = Dispatched.Replied l; reply = s }
+  pub replied : case_verdict file ≡ Ok tt → (k : ℕ) (r : code-refined.Refined) → refined_held k r ≡ refined_reply budget (case_of file) → {l : ℕ} {s : List ℕ} → l ≡ length (refined_bytes (refined_held k r)) → s ≡ over (refined_bytes (refined_held k r)) reply → refined file budget reply ≡ record { answer = Ok l; reply = s }
   unfolding refine_ends
   replied e k r v m n = by-case file budget reply asked ∙ rw (e, m, n, v)

@@ -10,31 +10,30 @@ use Rattle.evaluation.specs.Clauses.{SiteHeld}
 use Rattle.evaluation.proofs.Offers.{held-available}
 use Rattle.sums.specs.Sums.{TermHeld}
 use Rattle.branching.specs.Nodes.{NodeUnit, offer_within, problem_at}
-use Rattle.nodes.specs.declared.Limits as code-limits
 use Rattle.nodes.specs.declared.Node as code-node
 use Rattle.nodes.specs.Clauses.{SumsAt}
 use Rattle.refining.specs.declared.exchanging.UnitTerms as code-terms
 use Rattle.refining.specs.Clauses.{NodeHeld, SumsKept, HoldsUnitTerms, SumsWith, NodeExchangeable, ExchangesNode}
 use Rattle.refining.proofs.NodesHeld.{node-problem}
 
-module _ {coefficients ends ranges : List ℕ} {l : code-limits.Limits} {i d : ℕ} {y : List NodeUnit} (place : i < l.count) (n : NodeHeld coefficients ends ranges l d y) where
+module _ {coefficients ends ranges : List ℕ} {count t : ℕ} {i d : ℕ} {y : List NodeUnit} (place : i < count) (n : NodeHeld coefficients ends ranges count t d y) where
   offer-held : HoldsOffer coefficients ends ranges i (get_or (problem_at d y).offers i no_offer)
   offer-held = (node-problem n).problem.offers i place
 
-  pub site-held : SiteHeld coefficients ends ranges l.count
+  pub site-held : SiteHeld coefficients ends ranges count
   site-held = record { problem = problem_at d y; holds = (node-problem n).problem }
 
   pub term_held : {m : ℕ} → m ≤ 65535 → TermHeld coefficients ends ranges i (m + 1)
   term_held few = record { few = omega (arith, place, n.node.few); multiplier = omega arith; offer = _; holds = offer-held }
 
   -- the node has these sums, and its unit i these terms of them
-  module _ {f m : ℕ} {x own : code-node.Node} {old : code-terms.UnitTerms} (kept : SumsKept coefficients ends ranges l.count f m x own) (terms : HoldsUnitTerms coefficients ends ranges i m old) (sums : SumsAt (problem_at d y).offers x) where
+  module _ {f m : ℕ} {x own : code-node.Node} {old : code-terms.UnitTerms} (kept : SumsKept coefficients ends ranges count f m x own) (terms : HoldsUnitTerms coefficients ends ranges i m old) (sums : SumsAt (problem_at d y).offers x) where
     with_terms : SumsWith (problem_at d y).offers i own old
     with_terms =
         record { sums = kept.sums (problem_at d y) (node-problem n).problem sums; low = rw kept.multiplier (terms.low _ offer-held); high = rw kept.multiplier (terms.high _ offer-held) }
 
     -- and the part of the node is held by other ranges
-    module _ {ranges' : List ℕ} {y' : List NodeUnit} (n' : NodeHeld coefficients ends ranges' l d y') where
+    module _ {ranges' : List ℕ} {y' : List NodeUnit} (n' : NodeHeld coefficients ends ranges' count t d y') where
       pub node-exchangeable : m ≤ 65535 → NodeExchangeable coefficients ends ranges' i own old
       node-exchangeable few =
           record {

@@ -19,8 +19,8 @@ use Rattle.site.proofs.UnitsWritten.{mapped}
 use Rattle.bisection.specs.Clauses.{Holding}
 use Rattle.branching.specs.Nodes.{NodeUnit, offer_within, problem_at, has_several, lowest_of, rest_of, any_several, divided}
 use Rattle.branching.proofs.Nodes.{offered, within-proper, some-lowest, some-rest}
-use Rattle.nodes.specs.declared.Limits as code-limits
-use Rattle.refining.specs.Clauses.{ranged, FirstSeveral, HoldsNodeUnit, HoldsNode, NodeHeld, no_unit}
+use Rattle.std.proofs.Common.{None}
+use Rattle.refining.specs.Clauses.{ranged, SeveralAt, FirstSeveral, HoldsNodeUnit, HoldsNode, NodeHeld, no_unit}
 use Rattle.refining.proofs.Ranged.{ranged-first, ranged-last, ranged_first_other, ranged_last_other}
 
 -- ---- p in one of the regions of an array
@@ -93,8 +93,8 @@ module _ {coefficients ends ranges : List ℕ} {i : ℕ} {h : NodeUnit} (u : Hol
 -- ---- all units
 
 -- the problem of a node that is held
-module _ {coefficients ends ranges : List ℕ} {l : code-limits.Limits} {d : ℕ} {x : List NodeUnit} (h : NodeHeld coefficients ends ranges l d x) where
-  pub node-problem : Holding coefficients ends ranges l.count l.target (problem_at d x)
+module _ {coefficients ends ranges : List ℕ} {n t d : ℕ} {x : List NodeUnit} (h : NodeHeld coefficients ends ranges n t d x) where
+  pub node-problem : Holding coefficients ends ranges n t (problem_at d x)
   node-problem =
       record {
         problem =
@@ -134,119 +134,118 @@ divided-at part [] k b l e = absurd (omega arith)
 divided-at part (h ∷ hs) zero b l e = rw e
 divided-at part (h ∷ hs) (suc k) b l e = rw (b 0 (omega arith)) (ap (λ (ys : List NodeUnit). h ∷ ys) (divided-at part hs k (λ j m. b (suc j) (omega arith)) (omega arith) e))
 
-module _ {coefficients ends ranges : List ℕ} {n k : ℕ} {x : List NodeUnit} (h : HoldsNode coefficients ends ranges n x) (f : FirstSeveral ranges n k) where
+pub no_several : {coefficients ends ranges : List ℕ} {n : ℕ} {x : List NodeUnit} → HoldsNode coefficients ends ranges n x → FirstSeveral ranges n None → any_several x ≡ false
+no_several {n = n} {x = x} h f = none-several x (λ j l. let under : j < n = omega (arith, h.count) in one-region (h.units j under) (f j under))
+
+module _ {coefficients ends ranges : List ℕ} {n k : ℕ} {x : List NodeUnit} (h : HoldsNode coefficients ends ranges n x) (f : SeveralAt ranges n k) where
   none_before : Before x k
-  none_before j l = one-region (h.units j (omega (arith, f.within))) (f.before j l)
+  none_before j l = one-region (h.units j (omega (arith, f.place))) (f.before j l)
 
-  pub no_several : k ≡ n → any_several x ≡ false
-  no_several e = none-several x (λ j l. none_before j (omega (arith, h.count)))
+  abbrev own : NodeUnit
+  own = get_or x k no_unit
 
-  module _ (some : k < n) where
-    abbrev own : NodeUnit
-    own = get_or x k no_unit
+  abbrev a : ℕ
+  a = first ranges k
 
-    abbrev a : ℕ
-    a = first ranges k
+  abbrev b : ℕ
+  b = last ranges k
 
-    abbrev b : ℕ
-    b = last ranges k
+  unit : HoldsNodeUnit coefficients ends ranges k own
+  unit = h.units k f.place
 
-    unit : HoldsNodeUnit coefficients ends ranges k own
-    unit = h.units k some
+  pub ordered : a < b
+  ordered = omega (arith, unit.ascending.some, f.several)
 
-    pub ordered : a < b
-    ordered = omega (arith, unit.ascending.some, f.several some)
+  pub any_several_lem : any_several x ≡ true
+  any_several_lem = any_at x k none_before (omega (arith, h.count, f.place)) (several-regions unit (f.several))
 
-    pub any_several_lem : any_several x ≡ true
-    any_several_lem = any_at x k none_before (omega (arith, h.count)) (several-regions unit (f.several some))
+  pub small : b < 192
+  small = omega (arith, unit.to, h.few)
 
-    pub small : b < 192
-    small = omega (arith, unit.to, h.few)
+  -- the other offers are as they were
+  offers_exchanged : (part : List Region → List Region) → map offer_within (divided part x) ≡ set (map offer_within x) k (get_or (map offer_within (divided part x)) k no_offer)
+  offers_exchanged part =
+      let h' : NodeUnit = record { unit = own.unit; regions = part own.regions } in
+      let is = divided-at part x k none_before (omega (arith, h.count, f.place)) (several-regions unit (f.several)) in
+      let here : get_or (map offer_within (set x k h')) k no_offer ≡ offer_within h' = mapped offer_within (set x k h') k no_unit no_offer (rw length-set (omega (arith, h.count, f.place))) ∙ ap offer_within (get_or-set_same x k h' no_unit (omega (arith, h.count, f.place))) in
+      rw is (map-set offer_within x k h' ∙ ap (set (map offer_within x) k) (sym here))
 
-    -- the other offers are as they were
-    offers_exchanged : (part : List Region → List Region) → map offer_within (divided part x) ≡ set (map offer_within x) k (get_or (map offer_within (divided part x)) k no_offer)
-    offers_exchanged part =
-        let h' : NodeUnit = record { unit = own.unit; regions = part own.regions } in
-        let is = divided-at part x k none_before (omega (arith, h.count)) (several-regions unit (f.several some)) in
-        let here : get_or (map offer_within (set x k h')) k no_offer ≡ offer_within h' = mapped offer_within (set x k h') k no_unit no_offer (rw length-set (omega (arith, h.count))) ∙ ap offer_within (get_or-set_same x k h' no_unit (omega (arith, h.count))) in
-        rw is (map-set offer_within x k h' ∙ ap (set (map offer_within x) k) (sym here))
+  -- a part of the unit's regions, from c to e
+  module _ (part : List Region → List Region) (less : (p : ℕ) (rs : List Region) → in_some p (part rs) ≡ true → in_some p rs ≡ true) (c e : ℕ) (from : a ≤ c) (order : c ≤ e) (to : e ≤ b) (regions : held_from ends c (e + 1 - c) ≡ part own.regions) where
+    abbrev ranges' : List ℕ
+    ranges' = ranged ranges k c e
 
-    -- a part of the unit's regions, from c to e
-    module _ (part : List Region → List Region) (less : (p : ℕ) (rs : List Region) → in_some p (part rs) ≡ true → in_some p rs ≡ true) (c e : ℕ) (from : a ≤ c) (order : c ≤ e) (to : e ≤ b) (regions : held_from ends c (e + 1 - c) ≡ part own.regions) where
-      abbrev ranges' : List ℕ
-      ranges' = ranged ranges k c e
+    place : 0 < b
+    place = omega (arith, ordered)
 
-      place : 0 < b
-      place = omega (arith, ordered)
+    new : HoldsNodeUnit coefficients ends ranges' k (record { unit = own.unit; regions = part own.regions })
+    new =
+        let first-is = ranged-first ranges k c e place in
+        let last-is = ranged-last ranges k c e place in
+        record {
+          unit = unit.unit;
+          from = omega (arith, first-is, unit.from);
+          to = omega (arith, last-is, unit.to);
+          ascending =
+              rw (first-is, last-is)
+              (record {
+                some = order;
+                ascending =
+                    record {
+                      order = λ j s t. unit.ascending.ascending.order j (omega arith) (omega arith);
+                      limit = λ j s t. unit.ascending.ascending.limit j (omega arith) (omega arith);
+                      apart = λ i j s m t. unit.ascending.ascending.apart i j (omega arith) m (omega arith);
+                      stands = λ j s t. unit.ascending.ascending.stands j (omega arith) (omega arith);
+                    };
+              });
+          regions = rw (first-is, last-is) regions;
+          permitted = λ p s. unit.permitted p (less p own.regions s);
+        }
 
-      new : HoldsNodeUnit coefficients ends ranges' k (record { unit = own.unit; regions = part own.regions })
-      new =
-          let first-is = ranged-first ranges k c e place in
-          let last-is = ranged-last ranges k c e place in
-          record {
-            unit = unit.unit;
-            from = omega (arith, first-is, unit.from);
-            to = omega (arith, last-is, unit.to);
-            ascending =
-                rw (first-is, last-is)
-                (record {
-                  some = order;
-                  ascending =
-                      record {
-                        order = λ j s t. unit.ascending.ascending.order j (omega arith) (omega arith);
-                        limit = λ j s t. unit.ascending.ascending.limit j (omega arith) (omega arith);
-                        apart = λ i j s m t. unit.ascending.ascending.apart i j (omega arith) m (omega arith);
-                        stands = λ j s t. unit.ascending.ascending.stands j (omega arith) (omega arith);
-                      };
-                });
-            regions = rw (first-is, last-is) regions;
-            permitted = λ p s. unit.permitted p (less p own.regions s);
-          }
+    other : (i : ℕ) → (i ≡ k → ⊥) → (u : NodeUnit) → HoldsNodeUnit coefficients ends ranges i u → HoldsNodeUnit coefficients ends ranges' i u
+    other i d u v =
+        let first-is = ranged_first_other ranges k c e place i d in
+        let last-is = ranged_last_other ranges k c e place i d in
+        record {
+          unit = v.unit;
+          from = omega (arith, first-is, v.from);
+          to = omega (arith, last-is, v.to);
+          ascending = rw (first-is, last-is) v.ascending;
+          regions = rw (first-is, last-is) v.regions;
+          permitted = v.permitted;
+        }
 
-      other : (i : ℕ) → (i ≡ k → ⊥) → (u : NodeUnit) → HoldsNodeUnit coefficients ends ranges i u → HoldsNodeUnit coefficients ends ranges' i u
-      other i d u v =
-          let first-is = ranged_first_other ranges k c e place i d in
-          let last-is = ranged_last_other ranges k c e place i d in
-          record {
-            unit = v.unit;
-            from = omega (arith, first-is, v.from);
-            to = omega (arith, last-is, v.to);
-            ascending = rw (first-is, last-is) v.ascending;
-            regions = rw (first-is, last-is) v.regions;
-            permitted = v.permitted;
-          }
-
-      part_held : HoldsNode coefficients ends ranges' n (divided part x)
-      part_held =
-          rw (divided-at part x k none_before (omega (arith, h.count)) (several-regions unit (f.several some)))
-          (record {
-            count = rw length-set h.count;
-            few = h.few;
-            units = λ i l. at i l (ℕ_discrete i k);
-          })
-        where
-          at : (i : ℕ) → i < n → Dec (i ≡ k) → HoldsNodeUnit coefficients ends ranges' i (get_or (set x k (record { unit = own.unit; regions = part own.regions })) i no_unit)
-          at i l (yes d) = rw (d, get_or-set_same x k (record { unit = own.unit; regions = part own.regions }) no_unit (omega (arith, h.count))) new
-          at i l (no d) = rw (get_or-set_other x k i (record { unit = own.unit; regions = part own.regions }) no_unit d) (other i d (get_or x i no_unit) (h.units i l))
-
-    several : held_from ends a (b + 1 - a) ≡ record { low = low ends a; high = high ends a } ∷ held_from ends (a + 1) (b + 1 - (a + 1))
-    several =
-        let more : b + 1 - a ≡ suc (b + 1 - (a + 1)) = omega (arith, ordered) in
-        let next : suc a ≡ a + 1 = omega arith in
-        rw more (each_from (b + 1 - (a + 1)) a (λ j. record { low = low ends j; high = high ends j }) ∙ rw next)
-
-    pub lowest-held : HoldsNode coefficients ends (ranged ranges k a a) n (divided lowest_of x)
-    lowest-held = part_held lowest_of some-lowest a a (omega arith) (omega arith) (omega (arith, ordered)) one
+    part_held : HoldsNode coefficients ends ranges' n (divided part x)
+    part_held =
+        rw (divided-at part x k none_before (omega (arith, h.count, f.place)) (several-regions unit (f.several)))
+        (record {
+          count = rw length-set h.count;
+          few = h.few;
+          units = λ i l. at i l (ℕ_discrete i k);
+        })
       where
-        one : held_from ends a (a + 1 - a) ≡ lowest_of own.regions
-        one = let e : a + 1 - a ≡ 1 = omega arith in let z : a + 0 ≡ a = omega arith in rw (e, z, ← unit.regions, several)
+        at : (i : ℕ) → i < n → Dec (i ≡ k) → HoldsNodeUnit coefficients ends ranges' i (get_or (set x k (record { unit = own.unit; regions = part own.regions })) i no_unit)
+        at i l (yes d) = rw (d, get_or-set_same x k (record { unit = own.unit; regions = part own.regions }) no_unit (omega (arith, h.count, f.place))) new
+        at i l (no d) = rw (get_or-set_other x k i (record { unit = own.unit; regions = part own.regions }) no_unit d) (other i d (get_or x i no_unit) (h.units i l))
 
-    pub rest-held : HoldsNode coefficients ends (ranged ranges k (a + 1) b) n (divided rest_of x)
-    rest-held = part_held rest_of some-rest (a + 1) b (omega arith) (omega (arith, ordered)) (omega arith) (rw (← unit.regions, several))
+  several : held_from ends a (b + 1 - a) ≡ record { low = low ends a; high = high ends a } ∷ held_from ends (a + 1) (b + 1 - (a + 1))
+  several =
+      let more : b + 1 - a ≡ suc (b + 1 - (a + 1)) = omega (arith, ordered) in
+      let next : suc a ≡ a + 1 = omega arith in
+      rw more (each_from (b + 1 - (a + 1)) a (λ j. record { low = low ends j; high = high ends j }) ∙ rw next)
 
-    -- the offers of the parts
-    pub lowest_exchanged : map offer_within (divided lowest_of x) ≡ set (map offer_within x) k (get_or (map offer_within (divided lowest_of x)) k no_offer)
-    lowest_exchanged = offers_exchanged lowest_of
+  pub lowest-held : HoldsNode coefficients ends (ranged ranges k a a) n (divided lowest_of x)
+  lowest-held = part_held lowest_of some-lowest a a (omega arith) (omega arith) (omega (arith, ordered)) one
+    where
+      one : held_from ends a (a + 1 - a) ≡ lowest_of own.regions
+      one = let e : a + 1 - a ≡ 1 = omega arith in let z : a + 0 ≡ a = omega arith in rw (e, z, ← unit.regions, several)
 
-    pub rest_exchanged : map offer_within (divided rest_of x) ≡ set (map offer_within x) k (get_or (map offer_within (divided rest_of x)) k no_offer)
-    rest_exchanged = offers_exchanged rest_of
+  pub rest-held : HoldsNode coefficients ends (ranged ranges k (a + 1) b) n (divided rest_of x)
+  rest-held = part_held rest_of some-rest (a + 1) b (omega arith) (omega (arith, ordered)) (omega arith) (rw (← unit.regions, several))
+
+  -- the offers of the parts
+  pub lowest_exchanged : map offer_within (divided lowest_of x) ≡ set (map offer_within x) k (get_or (map offer_within (divided lowest_of x)) k no_offer)
+  lowest_exchanged = offers_exchanged lowest_of
+
+  pub rest_exchanged : map offer_within (divided rest_of x) ≡ set (map offer_within x) k (get_or (map offer_within (divided rest_of x)) k no_offer)
+  rest_exchanged = offers_exchanged rest_of

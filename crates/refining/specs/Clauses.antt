@@ -1,5 +1,5 @@
 -- What is asked and answered between the functions of the search: the arrays hold a node if they hold each of its units with the regions that the node leaves it; numbers with the lent best outputs hold what a search has (crate `nodes`). A visit of any node that the arrays hold then gives what `Branching.visit` says.
-use Rattle.std.specs.Prelude.{ℕ, ◌+◌, ◌*◌, ◌≤◌, ◌<◌, ◌≡◌, true, List, [], length, get_or, take, set}
+use Rattle.std.specs.Prelude.{ℕ, ◌+◌, ◌*◌, ◌≤◌, ◌<◌, ◌≡◌, true, List, [], length, get_or, take, set, Option, Some, None}
 use Rattle.rules.specs.Unit.{permitted}
 use Rattle.rules.specs.Regions.{in_some}
 use Rattle.rules.specs.Lists.{Every}
@@ -11,7 +11,6 @@ use Rattle.sums.specs.Sums.{HoldsTerm, TermHeld, Terms}
 use Rattle.branching.specs.Branching.{Progress, visit}
 use Rattle.branching.specs.Nodes.{NodeUnit, problem_at, tree, RefinedReply}
 use Rattle.nodes.specs.declared.Progress as code-progress
-use Rattle.nodes.specs.declared.Limits as code-limits
 use Rattle.nodes.specs.declared.Node as code-node
 use Rattle.nodes.specs.Clauses.{SumsAt, HoldsProgress}
 use Rattle.refining.specs.declared.exchanging.UnitTerms as code-terms
@@ -23,11 +22,16 @@ use Rattle.refining.specs.declared.reply.Refined as code-refined
 abbrev pub ranged : List ℕ → ℕ → ℕ → ℕ → List ℕ
 ranged ranges k a b = set (set ranges (2 * k) a) (2 * k + 1) b
 
--- unit k is the first of n with several regions; or k is n, and none has
-pub record FirstSeveral (ranges : List ℕ) (n k : ℕ) : Type 0 where
-  pub within : k ≤ n
+-- unit k is the first of n with several regions
+pub record SeveralAt (ranges : List ℕ) (n k : ℕ) : Type 0 where
+  pub place : k < n
   pub before : (j : ℕ) → j < k → first ranges j ≡ last ranges j
-  pub several : k < n → first ranges k ≡ last ranges k → ⊥
+  pub several : first ranges k ≡ last ranges k → ⊥
+
+-- k is that unit; or none has several
+abbrev pub FirstSeveral : List ℕ → ℕ → Option ℕ → Type 0
+FirstSeveral ranges n (Some k) = SeveralAt ranges n k
+FirstSeveral ranges n None = (j : ℕ) → j < n → first ranges j ≡ last ranges j
 
 -- ---- the arrays hold a node
 
@@ -50,16 +54,16 @@ pub record HoldsNode (coefficients ends ranges : List ℕ) (n : ℕ) (x : List N
   pub units : (i : ℕ) → i < n → HoldsNodeUnit coefficients ends ranges i (get_or x i no_unit)
 
 -- the node x, for the demand d
-pub record NodeHeld (coefficients ends ranges : List ℕ) (l : code-limits.Limits) (d : ℕ) (x : List NodeUnit) : Type 0 where
-  pub node : HoldsNode coefficients ends ranges l.count x
+pub record NodeHeld (coefficients ends ranges : List ℕ) (n t : ℕ) (d : ℕ) (x : List NodeUnit) : Type 0 where
+  pub node : HoldsNode coefficients ends ranges n x
   pub demand : d ≤ 320000
-  pub target : l.target ≡ 100000000 * d
+  pub target : t ≡ 100000000 * d
 
 -- they hold some node, whose sums at its two multipliers x has
-pub record Visitable (coefficients ends ranges : List ℕ) (l : code-limits.Limits) (x : code-node.Node) : Type 0 where
+pub record Visitable (coefficients ends ranges : List ℕ) (n t : ℕ) (x : code-node.Node) : Type 0 where
   pub demand : ℕ
   pub node : List NodeUnit
-  pub held : NodeHeld coefficients ends ranges l demand node
+  pub held : NodeHeld coefficients ends ranges n t demand node
   pub sums : SumsAt (problem_at demand node).offers x
   pub multiplier : x.multiplier ≤ 65535
 
@@ -104,8 +108,8 @@ pub record ExchangesNode (coefficients ends ranges : List ℕ) (k : ℕ) (x : co
 
 -- ---- a visit of every node that the arrays hold and whose sums x has
 
-pub record Visits (coefficients ends ranges : List ℕ) (l : code-limits.Limits) (left : ℕ) (x : code-node.Node) (s : code-progress.Progress) (before : List ℕ) (r : code-progress.Progress) (best : List ℕ) : Type 0 where
-  pub visits : (d : ℕ) (y : List NodeUnit) → NodeHeld coefficients ends ranges l d y → SumsAt (problem_at d y).offers x → (p : Progress Reply) → HoldsProgress l.count p s before → HoldsProgress l.count (visit (tree d) l.budget left x.parent y p) r best
+pub record Visits (coefficients ends ranges : List ℕ) (n t budget left : ℕ) (x : code-node.Node) (s : code-progress.Progress) (before : List ℕ) (r : code-progress.Progress) (best : List ℕ) : Type 0 where
+  pub visits : (d : ℕ) (y : List NodeUnit) → NodeHeld coefficients ends ranges n t d y → SumsAt (problem_at d y).offers x → (p : Progress Reply) → HoldsProgress n p s before → HoldsProgress n (visit (tree d) budget left x.parent y p) r best
 
 -- ---- the reply
 

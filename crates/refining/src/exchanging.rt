@@ -5,6 +5,7 @@ ghost use Rattle.sums.specs.Sums.{TermHeld};
 ghost use Rattle.refining.specs.Clauses.{SumsHeld, SumsKept, HoldsUnitTerms, NodeExchangeable, ExchangesNode};
 
 use nodes::Node;
+use site::Site;
 use sums::Totals;
 
 // One unit's terms of a node's sums: at a multiplier, and at the next one.
@@ -14,104 +15,52 @@ pub struct UnitTerms {
     pub high: Totals,
 }
 
-// The node that the arrays hold: its parent's floor, and the sums of its choices at `m` and at the next multiplier.
-pub fn node_at(
-    coefficients: &[u64; 160],
-    ends: &[u16; 384],
-    ranges: &[u8; 64],
-    n: usize,
-    parent: u64,
-    m: u64,
-) -> Node
-    requires { SiteHeld coefficients.now ends.now ranges.now n × (m ≤ 65535) }
-    ensures { SumsHeld coefficients.now ends.now ranges.now n parent m result }
+// The node that the site holds: its parent's floor, and the sums of its choices at `m` and at the next multiplier.
+pub fn node_at(site: &Site, parent: u64, m: u64) -> Node
+    requires { SiteHeld site.now.coefficients site.now.ends site.now.ranges site.now.count × (m ≤ 65535) }
+    ensures { SumsHeld site.now.coefficients site.now.ends site.now.ranges site.now.count parent m result }
 {
     Node {
         parent,
         multiplier: m,
-        low: sums::sums_at(coefficients, ends, ranges, n, m),
-        high: sums::sums_at(coefficients, ends, ranges, n, m + 1),
+        low: sums::sums_at(site, m),
+        high: sums::sums_at(site, m + 1),
     }
 }
 
-// The node `x`, which the arrays hold, with the floor for its parts, and the sums at `m`: made anew, unless `x` has them.
-pub fn node_again(
-    coefficients: &[u64; 160],
-    ends: &[u16; 384],
-    ranges: &[u8; 64],
-    n: usize,
-    parent: u64,
-    m: u64,
-    x: Node,
-) -> Node
-    requires { SiteHeld coefficients.now ends.now ranges.now n × (m ≤ 65535) }
-    ensures { SumsKept coefficients.now ends.now ranges.now n parent m x result }
+// The node `x`, which the site holds, with the floor for its parts, and the sums at `m`: made anew, unless `x` has them.
+pub fn node_again(site: &Site, parent: u64, m: u64, x: Node) -> Node
+    requires { SiteHeld site.now.coefficients site.now.ends site.now.ranges site.now.count × (m ≤ 65535) }
+    ensures { SumsKept site.now.coefficients site.now.ends site.now.ranges site.now.count parent m x result }
 {
-    let Node {
-        multiplier,
-        low,
-        high,
-        ..
-    } = x;
+    let Node { multiplier, .. } = x;
     if multiplier != m {
-        return node_at(coefficients, ends, ranges, n, parent, m);
+        return node_at(site, parent, m);
     }
-    Node {
-        parent,
-        multiplier: m,
-        low,
-        high,
-    }
+    Node { parent, ..x }
 }
 
 // The terms of unit `k` at `m` and at the next multiplier.
-pub fn unit_terms(
-    coefficients: &[u64; 160],
-    ends: &[u16; 384],
-    ranges: &[u8; 64],
-    k: usize,
-    m: u64,
-) -> UnitTerms
-    requires { TermHeld coefficients.now ends.now ranges.now k (m + 1) }
-    ensures { HoldsUnitTerms coefficients.now ends.now ranges.now k m result }
+pub fn unit_terms(site: &Site, k: usize, m: u64) -> UnitTerms
+    requires { TermHeld site.now.coefficients site.now.ends site.now.ranges k (m + 1) }
+    ensures { HoldsUnitTerms site.now.coefficients site.now.ends site.now.ranges k m result }
 {
     UnitTerms {
-        low: sums::term_at(coefficients, ends, ranges, k, m),
-        high: sums::term_at(coefficients, ends, ranges, k, m + 1),
+        low: sums::term_at(site, k, m),
+        high: sums::term_at(site, k, m + 1),
     }
 }
 
-// The node that the arrays hold now, where unit `k` has other regions than in `x`; `old` are its terms in the sums of `x`. The other
+// The node that the site holds now, where unit `k` has other regions than in `x`; `old` are its terms in the sums of `x`. The other
 // units are not looked at.
-pub fn exchanged_node(
-    coefficients: &[u64; 160],
-    ends: &[u16; 384],
-    ranges: &[u8; 64],
-    k: usize,
-    x: Node,
-    old: UnitTerms,
-) -> Node
-    requires { NodeExchangeable coefficients.now ends.now ranges.now k x old }
-    ensures { ExchangesNode coefficients.now ends.now ranges.now k x old result }
+pub fn exchanged_node(site: &Site, k: usize, x: Node, old: UnitTerms) -> Node
+    requires { NodeExchangeable site.now.coefficients site.now.ends site.now.ranges k x old }
+    ensures { ExchangesNode site.now.coefficients site.now.ends site.now.ranges k x old result }
 {
-    let Node {
-        parent,
-        multiplier,
-        low,
-        high,
-    } = x;
-    let UnitTerms {
-        low: old_low,
-        high: old_high,
-    } = old;
-    let UnitTerms {
-        low: new_low,
-        high: new_high,
-    } = unit_terms(coefficients, ends, ranges, k, multiplier);
+    let terms = unit_terms(site, k, x.multiplier);
     Node {
-        parent,
-        multiplier,
-        low: sums::exchanged(low, old_low, new_low),
-        high: sums::exchanged(high, old_high, new_high),
+        low: sums::exchanged(x.low, old.low, terms.low),
+        high: sums::exchanged(x.high, old.high, terms.high),
+        ..x
     }
 }

@@ -1,10 +1,10 @@
-// What the reply states of a search, and its bytes: two numbers, and from byte 6 on the amounts and outputs of any reply.
+// What the reply states of a search, and its bytes: those of any reply, with a second number of four bytes.
 ghost use Rattle.std.specs.Prelude.{◌≡◌, ◌≤◌, ◌-◌, min, length};
 ghost use Rattle.rules.specs.Lists.{over};
 ghost use Rattle.branching.specs.Refining.{refined_bytes};
 ghost use Rattle.refining.specs.Clauses.{refined_held};
 
-use crate::visiting::lower_of;
+use dispatching::{Amounts, write_numbers};
 use nodes::Progress;
 
 // What the reply states, besides the number of units.
@@ -30,7 +30,7 @@ pub fn stated(s: Progress, best: [u16; 32]) -> Refined
     Refined {
         nodes: visited,
         cost,
-        gap: cost - lower_of(cost, floor),
+        gap: cost.saturating_sub(floor),
         surplus,
         outputs: best,
     }
@@ -48,8 +48,6 @@ pub fn write_refined(s: &mut [u8], n: usize, r: Refined) -> usize
         surplus,
         outputs,
     } = r;
-    fields::write_u16(s, 0, n as u16);
-    fields::write_u32(s, 2, nodes);
-    dispatching::write_amounts(&mut s[6..], n, cost, gap, surplus, outputs);
-    30 + 2 * n
+    let amounts = Amounts { cost, gap, surplus };
+    write_numbers(s, n, 4, nodes as u64, amounts, &outputs)
 }

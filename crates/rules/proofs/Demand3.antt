@@ -1,4 +1,5 @@
 -- Demand 3 of the rules, from the file's bytes to the reply's: `Demand3 dispatched`.
+use Rattle.std.specs.Prelude.{Ok, Err}
 use mathlib.Core.Path.{◌≡◌, refl, sym, ap, ◌∙◌}
 use mathlib.Core.Bool.{Bool, true, false, not, true≢false}
 use mathlib.Core.List.{List, [], ◌∷◌}
@@ -15,8 +16,6 @@ use Rattle.rules.specs.Bisection.{solvable, solve}
 use Rattle.rules.specs.Calls.{reply_bytes, case_verdict, dispatch_verdict, dispatch_ends, dispatched}
 use Rattle.rules.specs.Promise.{Promise, Demand3}
 use Rattle.rules.specs.declared.Refusal.TheVariants.{NoAllocation}
-use Rattle.rules.specs.declared.Verdict.{Verdict}
-use Rattle.rules.specs.declared.Dispatched.{Dispatched}
 use Rattle.rules.proofs.Lists.{every_more, length-each}
 use Rattle.rules.proofs.Verdicts.{and-true, accepts}
 use Rattle.fields.proofs.Integers.{ints, is_pos, is_minus}
@@ -68,13 +67,13 @@ module _ (c : Case) (s : Every Sound c.units) (few : length c.units ≤ 32) (sol
 
 -- ---- what an accepted case is
 
-pub case-accepted : (file : List ℕ) → case_verdict file ≡ Verdict.Accepted → (file_verdict file ≡ Verdict.Accepted) × (solvable (problem_in file) ≡ true)
+pub case-accepted : (file : List ℕ) → case_verdict file ≡ Ok tt → (file_verdict file ≡ Ok tt) × (solvable (problem_in file) ≡ true)
 unfolding case_verdict
 case-accepted file e = simp accepts at e
 
 -- ---- dispatch of an accepted file, by whether step 1 accepts
 
-module _ (file reply : List ℕ) (accepted : file_verdict file ≡ Verdict.Accepted) (long : 92 ≤ length reply) where
+module _ (file reply : List ℕ) (accepted : file_verdict file ≡ Ok tt) (long : 92 ≤ length reply) where
   -- the verdict is step 1's
   verdict-is : dispatch_verdict file reply ≡ (not (solvable (problem_of (case_of file))) refuses NoAllocation)
   unfolding dispatch_verdict case_verdict
@@ -88,7 +87,7 @@ module _ (file reply : List ℕ) (accepted : file_verdict file ≡ Verdict.Accep
     out : List ℕ
     out = reply_bytes (solve (problem_of (case_of file)))
 
-    replied : dispatched file reply ≡ record { answer = Dispatched.Replied (length out); reply = over out reply }
+    replied : dispatched file reply ≡ record { answer = Ok (length out); reply = over out reply }
     unfolding dispatched dispatch_ends out
     replied = rw (verdict-is, solves)
 
@@ -105,12 +104,12 @@ module _ (file reply : List ℕ) (accepted : file_verdict file ≡ Verdict.Accep
         rw replied
         (record {
           refuses = ((λ e. absurd (let z : ◌≡◌ {A = ℕ} 0 1 = cc in omega arith)), λ none. absurd (none (solve (problem_of c)).outputs p.permitted p.covering));
-          replies = λ _. ap Dispatched.Replied length-out;
+          replies = λ _. ap Ok length-out;
           reply = λ _. rw spelled p;
         })
 
   module _ (fails : solvable (problem_of (case_of file)) ≡ false) where
-    refused : dispatched file reply ≡ record { answer = Dispatched.Refused NoAllocation; reply = reply }
+    refused : dispatched file reply ≡ record { answer = Err NoAllocation; reply = reply }
     unfolding dispatched dispatch_ends
     refused = rw (verdict-is, fails)
 

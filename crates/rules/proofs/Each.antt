@@ -1,4 +1,5 @@
 -- What a loop has still to look at, from index i on: the next element, and nothing at the end. Of `each n f`, of verdicts in order, and of a list whose elements are to be all the same.
+use Rattle.std.specs.Prelude.{Ok, Err}
 use Prim.Native.Nat.{ℕ, ◌+◌, ◌≤◌, ◌<◌}
 use native.Mathlib.Numerals.{add-one}
 use native.Mathlib.Omega.{arith}
@@ -10,10 +11,8 @@ use lib.ListN.{length, get_or, drop, drop_of_length-le}
 use lib.Seq.{drop-cons}
 use borrow.Author.Tests.{eq-eqb, ne_eqb}
 use Rattle.rules.specs.Lists.{each, all}
-use Rattle.rules.specs.Refusal.{in_order}
+use Rattle.rules.specs.Refusal.{in_order, Verdict}
 use Rattle.rules.specs.declared.Refusal.{Refusal}
-use Rattle.rules.specs.declared.Verdict.{Verdict}
-use Rattle.rules.specs.declared.Verdict.TheVariants.{Accepted, Refused}
 use Rattle.rules.proofs.Lists.{length-each, get_or_each}
 
 module _ {A : Type 0} (n : ℕ) (f : ℕ → A) (i : ℕ) where
@@ -36,14 +35,14 @@ module _ (n : ℕ) (f : ℕ → Verdict) where
   checked-starts = record { within = omega arith; rest = refl }
 
   module _ (i : ℕ) (c : Checked n f i) where
-    pub checked-ends : n ≤ i → in_order (each n f) ≡ Accepted
+    pub checked-ends : n ≤ i → in_order (each n f) ≡ Ok tt
     checked-ends h = c.rest ∙ ap in_order (rest-ends n f i h)
 
     module _ (h : i < n) where
-      pub checked_refused : {r : Refusal} → f i ≡ Refused r → in_order (each n f) ≡ Refused r
+      pub checked_refused : {r : Refusal} → f i ≡ Err r → in_order (each n f) ≡ Err r
       checked_refused e = c.rest ∙ rw (rest_more n f i h, e)
 
-      pub checked-more : f i ≡ Accepted → Checked n f (i + 1)
+      pub checked-more : f i ≡ Ok tt → Checked n f (i + 1)
       checked-more e = record { within = omega arith; rest = c.rest ∙ rw (rest_more n f i h, e) }
 
 -- ---- whether all elements are x

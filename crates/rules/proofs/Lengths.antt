@@ -1,4 +1,5 @@
 -- (rule 14.2) Lengths are 30 or more and numbers are less: a C caller can tell the two apart. And no length is above 92, or of a file 1,480, in edition 2 1,608.
+use Rattle.std.specs.Prelude.{Ok}
 use mathlib.Core.Path.{◌≡◌}
 use mathlib.Core.List.{List, [], ◌∷◌}
 use Prim.Native.Nat.{ℕ, ◌+◌, ◌*◌, ◌≤◌, ◌<◌}
@@ -41,8 +42,6 @@ use Rattle.rules.specs.declared.Refusal.TheVariants.{
   GencostNotWhole,
   GencostAboveLimit,
 }
-use Rattle.rules.specs.declared.Dispatched.{Dispatched}
-use Rattle.rules.specs.declared.Packed.{Packed}
 use Rattle.rules.specs.Lists.{Every}
 use Rattle.rules.proofs.Encoding.Body.{Packable, edges-start}
 use Rattle.rules.proofs.Encoding.RoundTrip.{length-file}
@@ -81,7 +80,7 @@ number_below_30 GencostAboveLimit = omega arith
 
 -- ---- lengths
 
-pub replied-length : (file reply : List ℕ) (n : ℕ) → (dispatched file reply).answer ≡ Dispatched.Replied n → (30 ≤ n) × (n ≤ 92)
+pub replied-length : (file reply : List ℕ) (n : ℕ) → (dispatched file reply).answer ≡ Ok n → (30 ≤ n) × (n ≤ 92)
 replied-length file reply n e =
     let r = replied file reply n e in
     let c = counted file r.accepted in
@@ -92,7 +91,7 @@ bodies-length e [] p = omega arith
 bodies-length e (u ∷ us) p = omega (arith, bodies-length e us p.1, p.0.sound.zone_count)
 
 -- 1,480 in edition 1, 1,608 in edition 2
-pub packed-length : (e d : ℕ) (rows : List ℕ) (b1 : List ℤ) (buffer : List ℕ) (n : ℕ) → (packed_in e d rows b1 buffer).answer ≡ Packed.Written n → (30 ≤ n) × (n ≤ 136 + (edges_start e + 16) * 32)
+pub packed-length : (e d : ℕ) (rows : List ℕ) (b1 : List ℤ) (buffer : List ℕ) (n : ℕ) → (packed_in e d rows b1 buffer).answer ≡ Ok n → (30 ≤ n) × (n ≤ 136 + (edges_start e + 16) * 32)
 unfolding packed_in
 packed-length e d rows b1 buffer n a =
     let (accepted, long) = pack-wrote (pack_verdict e d rows b1 buffer) e d rows b1 buffer n a in

@@ -1,4 +1,5 @@
 -- More load is never cheaper (`Loads` in specs/). Of one list of offers at two demands: the greater demand has no smaller dual value and no cheaper best; and two files that differ in the demand field alone have the same units.
+use Rattle.std.specs.Prelude.{Ok, Err}
 use mathlib.Core.Path.{◌≡◌, refl, sym, ap, subst, ◌∙◌}
 use mathlib.Core.Bool.{Bool, true}
 use mathlib.Core.List.{List, [], ◌∷◌}
@@ -17,7 +18,7 @@ use Rattle.fields.proofs.Integers.{ints, at_most}
 use Rattle.rules.specs.Lists.{each, all, Every}
 use Rattle.rules.specs.Unit.{Unit}
 use Rattle.rules.specs.Layout.{edition, count, demand, offset, size, unit_at, case_of}
-use Rattle.rules.specs.Refusal.{start, ◌refuses◌, file_verdict}
+use Rattle.rules.specs.Refusal.{start, ◌refuses◌, file_verdict, Verdict}
 use Rattle.rules.specs.Problem.{allocation, total_cost, total_net, covers, Problem, units_of, problem_of, problem_in}
 use Rattle.rules.specs.Choice.{choices, selected, dual_value, floor}
 use Rattle.rules.specs.Bisection.{greatest_outputs, solvable, found}
@@ -25,8 +26,6 @@ use Rattle.rules.specs.Calls.{case_verdict, dispatched, price_verdict, price_end
 use Rattle.rules.specs.Promise.{reply_in, Promise, ReplyPromise}
 use Rattle.rules.specs.Loads.{TwoDemands, SameButDemand, SameBytesSameUnits, NoDearer, MoreLoadNeverCheaper, MoreLoadNoLowerDual}
 use Rattle.rules.specs.declared.Refusal.TheVariants.{NoAllocation, MultiplierOutOfRange}
-use Rattle.rules.specs.declared.Verdict.{Verdict}
-use Rattle.rules.specs.declared.Dispatched.{Dispatched}
 use Rattle.rules.specs.declared.Priced.{Priced}
 use Rattle.rules.proofs.Lists.{each_same, length-each}
 use Rattle.rules.proofs.Verdicts.{and-true, then_accepted, refuses-accepted}
@@ -150,18 +149,18 @@ module _ (lower higher : List ℕ) (two : TwoDemands lower higher) where
 
   -- ---- dispatch
 
-  module _ (buffer other : List ℕ) (room : 92 ≤ length buffer) (n : ℕ) (e : (dispatched higher other).answer ≡ Dispatched.Replied n) where
+  module _ (buffer other : List ℕ) (room : 92 ≤ length buffer) (n : ℕ) (e : (dispatched higher other).answer ≡ Ok n) where
     promise : Promise lower (dispatched lower buffer)
     promise = demand3 lower buffer two.accepted room
 
     replied_higher : ReplyPromise (case_of higher) (reply_in (dispatched higher other).reply)
-    replied_higher = (demand3 higher other two.accepted' (replied higher other n e).room).reply (λ z. let f : Dispatched.Refused _ ≡ Dispatched.Replied n = sym z ∙ e in absurd (let w : ◌≡◌ {A = ℕ} 0 1 = cc in omega arith))
+    replied_higher = (demand3 higher other two.accepted' (replied higher other n e).room).reply (λ z. let f : Err _ ≡ Ok n = sym z ∙ e in absurd (let w : ◌≡◌ {A = ℕ} 0 1 = cc in omega arith))
 
     solves : solvable q ≡ true
     solves = (case-accepted higher (replied higher other n e).accepted).1
 
     -- what covers the higher demand covers the lower
-    not-refused : ¬ ((dispatched lower buffer).answer ≡ Dispatched.Refused NoAllocation)
+    not-refused : ¬ ((dispatched lower buffer).answer ≡ Err NoAllocation)
     not-refused z =
         let ps = (reply_in (dispatched higher other).reply).outputs in
         let h = replied_higher in
@@ -194,7 +193,7 @@ module _ (lower higher : List ℕ) (two : TwoDemands lower higher) where
         let low : floor g.one.0 (problem_in lower) ≤ℤ floor g.one.0 q = rw problem (floor-lesser q (demand lower) fewer g.one.0) in
         let top = h.greatest_floor.greatest g.one.0 g.one.1 in
         record {
-          solved = promise.replies not-refused ∙ ap (λ (k : ℕ). Dispatched.Replied (28 + 2 * k)) units-count;
+          solved = promise.replies not-refused ∙ ap (λ (k : ℕ). Ok (28 + 2 * k)) units-count;
           cost = omega (arith, p.cost, h.cost, best, ap (total_cost (case_of lower).units) p.bisection, ap (total_cost (case_of higher).units) h.bisection);
           floor = rw (← g.one.2) (omega (arith, ints, low, top));
         }
@@ -211,17 +210,18 @@ record Valued (file : List ℕ) (m : ℕ) (z : ℤ) (covered : Bool) : Type 0 wh
   dual : dual_value m (problem_in file) ≡ z
   choice : covers (problem_in file).demand (total_net (units_of (problem_in file)) (choices m (problem_in file))) ≡ covered
 
-valued : (file : List ℕ) (m : ℕ) (z : ℤ) (covered : Bool) → priced file m ≡ Priced.Valued z covered → Valued file m z covered
+valued : (file : List ℕ) (m : ℕ) (z : ℤ) (covered : Bool) → priced file m ≡ Ok (record { dual = z; covers = covered }) → Valued file m z covered
 unfolding priced price_verdict price_ends
 valued file m z covered = by (price_verdict file m) refl
   where
-    by : (v : Verdict) → price_verdict file m ≡ v → price_ends v file m ≡ Priced.Valued z covered → Valued file m z covered
-    by (Verdict.Refused r) k e = absurd (let w : ◌≡◌ {A = ℕ} 0 1 = cc in omega arith)
-    by Verdict.Accepted k e =
+    by : (v : Verdict) → price_verdict file m ≡ v → price_ends v file m ≡ Ok (record { dual = z; covers = covered }) → Valued file m z covered
+    by (Err r) k e = absurd (let w : ◌≡◌ {A = ℕ} 0 1 = cc in omega arith)
+    by (Ok _) k e =
         let both = (then_accepted (ltb 65536 m refuses MultiplierOutOfRange) (case_verdict file)).0 k in
-        record { multiplier = ltb-false 65536 m ((refuses-accepted (ltb 65536 m) MultiplierOutOfRange).0 both.0); solves = (case-accepted file both.1).1; dual = cc; choice = cc }
+        let same : ◌≡◌ {A = Priced} (record { dual = dual_value m (problem_in file); covers = covers (problem_in file).demand (total_net (units_of (problem_in file)) (choices m (problem_in file))) }) (record { dual = z; covers = covered }) = cc in
+        record { multiplier = ltb-false 65536 m ((refuses-accepted (ltb 65536 m) MultiplierOutOfRange).0 both.0); solves = (case-accepted file both.1).1; dual = ap (λ (p : Priced). p.dual) same; choice = ap (λ (p : Priced). p.covers) same }
 
-priced-is : (file : List ℕ) (m : ℕ) → m ≤ 65536 → file_verdict file ≡ Verdict.Accepted → solvable (problem_in file) ≡ true → priced file m ≡ Priced.Valued (dual_value m (problem_in file)) (covers (problem_in file).demand (total_net (units_of (problem_in file)) (choices m (problem_in file))))
+priced-is : (file : List ℕ) (m : ℕ) → m ≤ 65536 → file_verdict file ≡ Ok tt → solvable (problem_in file) ≡ true → priced file m ≡ Ok (record { dual = dual_value m (problem_in file); covers = covers (problem_in file).demand (total_net (units_of (problem_in file)) (choices m (problem_in file))) })
 unfolding priced price_verdict price_ends case_verdict
 priced-is file m h accepted solves = rw (le-ltb 65536 m h, accepted, solves)
 

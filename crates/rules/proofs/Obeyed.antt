@@ -1,4 +1,5 @@
 -- A zone is obeyed or its file refused: in an accepted file the bytes of an edge, most significant first, are the edge that `permitted` asks about.
+use Rattle.std.specs.Prelude.{Ok, Err}
 use mathlib.Core.Path.{◌≡◌, refl, sym, ap, ◌∙◌}
 use mathlib.Core.Bool.{Bool, true, false, not, true≢false}
 use mathlib.Core.List.{List}
@@ -11,11 +12,9 @@ use borrow.Author.Tests.{lt-ltb}
 use Rattle.fields.specs.Field.{number_after, field}
 use Rattle.rules.specs.Unit.{Unit, zone_at, zones, permitted, strictly_inside}
 use Rattle.rules.specs.Layout.{edges_start, edge_of_body, unit_of_body, edition, body}
-use Rattle.rules.specs.Refusal.{file_verdict}
+use Rattle.rules.specs.Refusal.{file_verdict, Verdict}
 use Rattle.rules.specs.Undoing.{two_bytes, ObeysZonesFrom, ZoneObeyedOrFileRefused}
 use Rattle.rules.specs.declared.Refusal.{Refusal}
-use Rattle.rules.specs.declared.Verdict.{Verdict}
-use Rattle.rules.specs.declared.Verdict.TheVariants.{Accepted, Refused}
 use Rattle.rules.proofs.Lists.{all-each, get_or_each}
 use Rattle.rules.proofs.Encoding.Body.{edges-start, SoundBody, sound-body}
 use Rattle.rules.proofs.Encoding.SoundFile.{SoundHead, sound-file}
@@ -66,15 +65,15 @@ module _ (e : ℕ) (s : List ℕ) (sound : SoundBody e s) (k : ℕ) (j : k < two
       by true t x y = absurd (inside-none u p k (omega arith) in_use t (omega arith) (omega arith))
 
 module _ (file : List ℕ) where
-  refused_or : {A : Type 0} → (file_verdict file ≡ Accepted → A) → ((r : Refusal) × (file_verdict file ≡ Refused r)) ⊎ A
+  refused_or : {A : Type 0} → (file_verdict file ≡ Ok tt → A) → ((r : Refusal) × (file_verdict file ≡ Err r)) ⊎ A
   refused_or {A} f = by (file_verdict file) refl
     where
-      by : (v : Verdict) → file_verdict file ≡ v → ((r : Refusal) × (file_verdict file ≡ Refused r)) ⊎ A
-      by (Refused r) e = inl (r, e)
-      by Accepted e = inr (f e)
+      by : (v : Verdict) → file_verdict file ≡ v → ((r : Refusal) × (file_verdict file ≡ Err r)) ⊎ A
+      by (Err r) e = inl (r, e)
+      by (Ok _) e = inr (f e)
 
   -- the edition of an accepted file, as it is spelled
-  spelled : file_verdict file ≡ Accepted → edition file ≡ two_bytes file 0
+  spelled : file_verdict file ≡ Ok tt → edition file ≡ two_bytes file 0
   spelled a = field-two file 0 (omega (arith, ((sound-file file).0 a).head.long))
 
   -- of either edition, from where its edges start
@@ -93,6 +92,6 @@ module _ (file : List ℕ) where
         other = λ one two. by one two (refused_or {A = (edition file ≡ two_bytes file 0) × SoundHead file} (λ a. (spelled a, ((sound-file file).0 a).head)));
       }
     where
-      by : (two_bytes file 0 ≡ 1 → ⊥) → (two_bytes file 0 ≡ 2 → ⊥) → ((r : Refusal) × (file_verdict file ≡ Refused r)) ⊎ ((edition file ≡ two_bytes file 0) × SoundHead file) → (r : Refusal) × (file_verdict file ≡ Refused r)
+      by : (two_bytes file 0 ≡ 1 → ⊥) → (two_bytes file 0 ≡ 2 → ⊥) → ((r : Refusal) × (file_verdict file ≡ Err r)) ⊎ ((edition file ≡ two_bytes file 0) × SoundHead file) → (r : Refusal) × (file_verdict file ≡ Err r)
       by one two (inl r) = r
       by one two (inr (is, head)) = absurd (omega (arith, is, head))

@@ -1,4 +1,5 @@
 -- What a dispatch that replied has written: the case was accepted, and the reply's bytes, spelling a unit's output for each unit of the file, stand at the buffer's start.
+use Rattle.std.specs.Prelude.{Ok, Err}
 use mathlib.Core.Path.{◌≡◌, refl, sym, ap, ◌∙◌}
 use mathlib.Core.List.{List, [], ◌++◌, append-nil}
 use Prim.Native.Nat.{ℕ, ◌+◌, ◌*◌, ◌≤◌}
@@ -10,15 +11,12 @@ use lib.Seq.{take-append_seam}
 use Rattle.fields.specs.Field.{field}
 use Rattle.rules.specs.Lists.{over}
 use Rattle.rules.specs.Layout.{count, unit_at, case_of}
-use Rattle.rules.specs.Refusal.{◌refuses◌, file_verdict}
+use Rattle.rules.specs.Refusal.{◌refuses◌, file_verdict, Verdict}
 use Rattle.rules.specs.Problem.{problem_in}
 use Rattle.rules.specs.Bisection.{Reply, solve}
 use Rattle.rules.specs.Calls.{reply_bytes, case_verdict, dispatch_verdict, dispatch_ends, dispatched}
 use Rattle.rules.specs.Promise.{reply_in}
 use Rattle.rules.specs.declared.Refusal.TheVariants.{BufferTooShort}
-use Rattle.rules.specs.declared.Verdict.{Verdict}
-use Rattle.rules.specs.declared.Verdict.TheVariants.{Accepted, Refused}
-use Rattle.rules.specs.declared.Dispatched.{Dispatched}
 use Rattle.rules.proofs.Lists.{length-each}
 use Rattle.rules.proofs.Verdicts.{then_accepted, refuses-accepted}
 use Rattle.rules.proofs.Encoding.SoundFile.{SoundHead, sound-file, units-sound}
@@ -37,8 +35,8 @@ pub record Counted (file : List ℕ) : Type 0 where
   pub spelled : field (written file) 0 2 ≡ count file
   pub long : length (written file) ≡ 28 + 2 * count file
 
-module _ (file : List ℕ) (e : case_verdict file ≡ Accepted) where
-  accepted : file_verdict file ≡ Accepted
+module _ (file : List ℕ) (e : case_verdict file ≡ Ok tt) where
+  accepted : file_verdict file ≡ Ok tt
   accepted = (case-accepted file e).0
 
   head : SoundHead file
@@ -77,16 +75,16 @@ module _ (file : List ℕ) (e : case_verdict file ≡ Accepted) where
 
 pub record Replied (file buffer : List ℕ) (n : ℕ) : Type 0 where
   pub room : 92 ≤ length buffer
-  pub accepted : case_verdict file ≡ Accepted
+  pub accepted : case_verdict file ≡ Ok tt
   pub long : n ≡ length (written file)
   pub reply : take n (dispatched file buffer).reply ≡ written file
 
-ended : (v : Verdict) (file buffer : List ℕ) (n : ℕ) → (dispatch_ends v file buffer).answer ≡ Dispatched.Replied n → (v ≡ Accepted) × (n ≡ length (written file)) × ((dispatch_ends v file buffer).reply ≡ over (written file) buffer)
+ended : (v : Verdict) (file buffer : List ℕ) (n : ℕ) → (dispatch_ends v file buffer).answer ≡ Ok n → (v ≡ Ok tt) × (n ≡ length (written file)) × ((dispatch_ends v file buffer).reply ≡ over (written file) buffer)
 unfolding dispatch_ends
-ended Accepted file buffer n e = (refl, sym cc, refl)
-ended (Refused r) file buffer n e = absurd (let z : ◌≡◌ {A = ℕ} 0 1 = cc in omega arith)
+ended (Ok _) file buffer n e = (refl, sym cc, refl)
+ended (Err r) file buffer n e = absurd (let z : ◌≡◌ {A = ℕ} 0 1 = cc in omega arith)
 
-pub replied : (file buffer : List ℕ) (n : ℕ) → (dispatched file buffer).answer ≡ Dispatched.Replied n → Replied file buffer n
+pub replied : (file buffer : List ℕ) (n : ℕ) → (dispatched file buffer).answer ≡ Ok n → Replied file buffer n
 unfolding dispatched dispatch_verdict
 replied file buffer n e =
     let (verdict, long, reply) = ended (dispatch_verdict file buffer) file buffer n e in

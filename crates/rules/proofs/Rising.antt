@@ -1,4 +1,5 @@
 -- Number 18 is exact: the step from 9,999 to 10,000 gains the least net, 100,000,000 − b1 − 19,999 × b. Where b1 is 0 it refuses nothing that 8 accepts.
+use Rattle.std.specs.Prelude.{Ok, Err}
 use Prim.Native.Nat.{ℕ, suc, ◌+◌, ◌*◌, ◌/◌, ◌%◌}
 use native.Mathlib.Omega.{arith}
 use mathlib.Core.Path.{◌≡◌, refl, ap}
@@ -13,14 +14,11 @@ use Rattle.fields.proofs.Integers.{itself, is_pos, is_add, under, ≤_in, ≤_ou
 use Rattle.rules.specs.Lists.{each, all, Every}
 use Rattle.rules.specs.Unit.{Unit, with_loss}
 use Rattle.rules.specs.Layout.{unit_of_body, body_length, edition, count, demand, body, units_of_rows, unit_in_row}
-use Rattle.rules.specs.Refusal.{number_of, number_of_verdict, ◌refuses◌, ◌then◌, in_order, zone_count_invalid, coefficient_out_of_range, losses_out_of_range, limits_invalid, ramp_or_mark_out_of_range, edition_verdict, head_verdict, start, entry_fits, contents_verdict, unit_verdict, body_verdict, file_verdict}
+use Rattle.rules.specs.Refusal.{number_of, number_of_verdict, ◌refuses◌, ◌then◌, in_order, zone_count_invalid, coefficient_out_of_range, losses_out_of_range, limits_invalid, ramp_or_mark_out_of_range, edition_verdict, head_verdict, start, entry_fits, contents_verdict, unit_verdict, body_verdict, file_verdict, Verdict}
 use Rattle.rules.specs.Calls.{file_length, pack_verdict, pack_ends, packed_in}
 use Rattle.rules.specs.Losses.{LinearLossInRange, NetRises, RefusedExactlyWhereNetDoesNotRise, PackingNeverMeets18, Edition1NeverMeets18}
 use Rattle.rules.specs.declared.Refusal.{Refusal}
 use Rattle.rules.specs.declared.Refusal.TheVariants.{FileTooShort, EditionUnknown, CountOutOfRange, DemandOutOfRange, ContentsInvalid, ZoneCountInvalid, CoefficientOutOfRange, LimitsInvalid, RampOrMarkOutOfRange, RowsInvalid, FileBufferTooShort, LossesOutOfRange}
-use Rattle.rules.specs.declared.Verdict.{Verdict}
-use Rattle.rules.specs.declared.Verdict.TheVariants.{Accepted, Refused}
-use Rattle.rules.specs.declared.Packed.{Packed}
 use Rattle.rules.proofs.Lists.{every-each, every_map}
 use Rattle.rules.proofs.Verdicts.{accepts}
 use Rattle.rules.proofs.Sound.{losses-sound}
@@ -58,8 +56,8 @@ next-never true r w h g e = h e
 next-never false r w h g e = g e
 
 then_never : (v w : Verdict) → Never18 v → Never18 w → Never18 (v then w)
-then_never Accepted w f g e = g e
-then_never (Refused r) w f g e = f e
+then_never (Ok _) w f g e = g e
+then_never (Err r) w f g e = f e
 
 in_order_never : (vs : List Verdict) → Every Never18 vs → Never18 (in_order vs)
 in_order_never [] p e = omega arith
@@ -104,9 +102,9 @@ pub packing_never : PackingNeverMeets18
 unfolding packed_in pack_ends
 packing_never d rows file = by (pack_verdict 1 d rows [] file) (rows-never d rows file)
   where
-    by : (v : Verdict) → Never18 v → (pack_ends v 1 d rows [] file).answer ≡ Packed.Refused LossesOutOfRange → ⊥
-    by Accepted h e = absurd (let z : ◌≡◌ {A = ℕ} 0 1 = cc in omega arith)
-    by (Refused r) h e = h (let same : r ≡ LossesOutOfRange = cc in ap number_of same)
+    by : (v : Verdict) → Never18 v → (pack_ends v 1 d rows [] file).answer ≡ Err LossesOutOfRange → ⊥
+    by (Ok _) h e = absurd (let z : ◌≡◌ {A = ℕ} 0 1 = cc in omega arith)
+    by (Err r) h e = h (let same : r ≡ LossesOutOfRange = cc in ap number_of same)
 
 body-never : (s : List ℕ) → Never18 (body_verdict 1 s)
 unfolding body_verdict unit_of_body

@@ -1,4 +1,5 @@
 -- Lowering, of accepted files: the laws of `Economics/Lowering` for their problems; and no choices that cover are cheaper than the reply, since what is selected costs no more than they do.
+use Rattle.std.specs.Prelude.{Ok}
 use Prim.Native.Nat.{ℕ, ◌*◌}
 use native.Mathlib.Omega.{arith}
 use mathlib.Core.Path.{◌≡◌}
@@ -10,7 +11,6 @@ use Rattle.rules.specs.Choice.{choices, selected}
 use Rattle.rules.specs.Calls.{case_verdict, dispatched}
 use Rattle.rules.specs.Promise.{Covering}
 use Rattle.rules.specs.Lowering.{LoweringSaves, LowersInFileOrder, LowersFurtherWithMoreToSpare, ChoicesNotCheaper}
-use Rattle.rules.specs.declared.Verdict.{Verdict}
 use Rattle.rules.specs.Lists.{Every}
 use Rattle.rules.specs.Offers.{Available}
 use Rattle.rules.proofs.Economics.Allocations.{tied-given, choices_tied}
@@ -20,7 +20,7 @@ use Rattle.rules.proofs.Economics.Solution.{same-cost, same-net, same_target, co
 use Rattle.rules.proofs.Encoding.SoundFile.{units-sound}
 use Rattle.rules.proofs.Demand3.{case-accepted, demand3}
 
-available : (file : List ℕ) → case_verdict file ≡ Verdict.Accepted → Every Available (problem_in file).offers
+available : (file : List ℕ) → case_verdict file ≡ Ok tt → Every Available (problem_in file).offers
 available file e =
     let (accepted, solves) = case-accepted file e in
     solvable-available (problem_in file) (case-proper (case_of file) (units-sound file accepted)) solves

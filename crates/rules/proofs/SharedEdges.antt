@@ -1,4 +1,5 @@
 -- Zones that share an edge (`SharedEdges` in specs/). The rule as it was and the rule as it is part only where two neighbouring zones share an edge; and there the shared edge is a region of one output.
+use Rattle.std.specs.Prelude.{Ok}
 use Prim.Native.Nat.{ℕ, zero, suc, ◌+◌, ◌-◌, ◌%◌, ◌≤◌, ◌<◌, max, min}
 use mathlib.Core.Bool.{Bool, true, false, cond, not, ◌&&◌, ◌||◌, true≢false}
 use mathlib.Core.List.{List, [], ◌∷◌, ◌++◌, map}
@@ -12,7 +13,7 @@ use borrow.Author.Tests.{lt-ltb, le-leb, leb-true, ltb-true, eq-eqb}
 use Rattle.rules.specs.Lists.{each}
 use Rattle.rules.specs.Unit.{Unit, Zone, zone_at, zones, permitted, strictly_inside, in_ramp_window}
 use Rattle.rules.specs.Layout.{unit_of_body, body_length, edition, count, body, unit_at, units_of_rows}
-use Rattle.rules.specs.Refusal.{◌refuses◌, ◌then◌, in_order, edition_verdict, head_verdict, contents_verdict, zones_ascend, starts_above, zone_count_invalid, coefficient_out_of_range, losses_out_of_range, limits_invalid, ramp_or_mark_out_of_range, unit_verdict, body_verdict, file_verdict}
+use Rattle.rules.specs.Refusal.{◌refuses◌, ◌then◌, in_order, edition_verdict, head_verdict, contents_verdict, zones_ascend, starts_above, zone_count_invalid, coefficient_out_of_range, losses_out_of_range, limits_invalid, ramp_or_mark_out_of_range, unit_verdict, body_verdict, file_verdict, Verdict}
 use Rattle.rules.specs.Regions.{Region, intervals, windowed, left_of, regions}
 use Rattle.rules.specs.Problem.{problem_in}
 use Rattle.rules.specs.Bisection.{solvable}
@@ -31,8 +32,6 @@ use Rattle.rules.specs.declared.Refusal.TheVariants.{
   RowsInvalid,
   FileBufferTooShort,
 }
-use Rattle.rules.specs.declared.Verdict.{Verdict}
-use Rattle.rules.specs.declared.Verdict.TheVariants.{Accepted}
 use Rattle.rules.proofs.Lists.{each_same}
 use Rattle.rules.proofs.Verdicts.{or_false, and-true, not_is_false, either_way, refuses-accepted, then_accepted, in_order_each}
 use Rattle.rules.proofs.Sound.{sound, zone-parts, ascending}
@@ -200,7 +199,7 @@ module _ (u : Unit) where
   same-verdict : limits_invalid u ≡ limits_invalid_before u → unit_verdict u ≡ unit_verdict_before u
   same-verdict e = verdict-by ∙ ap (λ (t : Bool). unit_verdict_by t u) e
 
-  stays-accepted : unit_verdict_before u ≡ Accepted → unit_verdict u ≡ Accepted
+  stays-accepted : unit_verdict_before u ≡ Ok tt → unit_verdict u ≡ Ok tt
   stays-accepted e =
       let count = (then_accepted (zone_count_invalid u refuses ZoneCountInvalid) (coefficient_out_of_range u refuses CoefficientOutOfRange then losses_out_of_range u refuses LossesOutOfRange then limits_invalid_before u refuses LimitsInvalid then ramp_or_mark_out_of_range u refuses RampOrMarkOutOfRange)).0 e in
       let coefficients = (then_accepted (coefficient_out_of_range u refuses CoefficientOutOfRange) (losses_out_of_range u refuses LossesOutOfRange then limits_invalid_before u refuses LimitsInvalid then ramp_or_mark_out_of_range u refuses RampOrMarkOutOfRange)).0 count.1 in
@@ -229,7 +228,7 @@ module _ (file : List ℕ) where
   file_without : NoSharedEdge file → file_verdict file ≡ file_verdict_before file
   file_without n = same-file (λ i h. bodies-same (edition file) (body file i) (same-verdict (unit_at file i) (same-limits (unit_at file i) (n i h))))
 
-  file-accepted : file_verdict_before file ≡ Accepted → file_verdict file ≡ file_verdict_before file
+  file-accepted : file_verdict_before file ≡ Ok tt → file_verdict file ≡ file_verdict_before file
   file-accepted e =
       let head = (then_accepted (head_verdict file) (contents_verdict file then in_order (each (count file) was))).0 e in
       let bodies = ((then_accepted (contents_verdict file) (in_order (each (count file) was))).0 head.1).1 in
@@ -255,13 +254,13 @@ module _ (file : List ℕ) where
 calls_as_before : (file : List ℕ) → file_verdict file ≡ file_verdict_before file → CallsAsBefore file
 calls_as_before file e = record { verdict = e; dispatches = same-dispatch file e; prices = same-price file e; unpacks = same_unpack file e }
 
-units-accepted : (us : List Unit) → in_order (map unit_verdict_before us) ≡ Accepted → in_order (map unit_verdict us) ≡ Accepted
+units-accepted : (us : List Unit) → in_order (map unit_verdict_before us) ≡ Ok tt → in_order (map unit_verdict us) ≡ Ok tt
 units-accepted [] e = refl
 units-accepted (u ∷ us) e =
     let both = (then_accepted (unit_verdict_before u) (in_order (map unit_verdict_before us))).0 e in
     (then_accepted (unit_verdict u) (in_order (map unit_verdict us))).1 (stays-accepted u both.0, units-accepted us both.1)
 
-rows-accepted : (d : ℕ) (rows file : List ℕ) → pack_verdict_before d rows file ≡ Accepted → packed d rows file ≡ packed_before d rows file
+rows-accepted : (d : ℕ) (rows file : List ℕ) → pack_verdict_before d rows file ≡ Ok tt → packed d rows file ≡ packed_before d rows file
 unfolding packed_in pack_verdict
 rows-accepted d rows file e =
     let us = units_of_rows rows [] in

@@ -1,4 +1,5 @@
 -- An accepted unit is a sound one: `unit_verdict u ≡ Accepted` as facts of its numbers, both ways.
+use Rattle.std.specs.Prelude.{Ok}
 use Prim.Native.Nat.{ℕ, zero, suc, ◌+◌, ◌*◌, ◌/◌, ◌%◌, ◌≤◌, ◌<◌}
 use native.Mathlib.Decide.{dec_lt}
 use native.Mathlib.Omega.{arith}
@@ -12,7 +13,6 @@ use lib.Seq.{get_or-drop}
 use borrow.Author.Tests.{eqb-true, eq-eqb}
 use Rattle.rules.specs.Unit.{Unit, Zone, zone_at, zones, with_previous}
 use Rattle.rules.specs.Refusal.{zones_ascend, unused_edges_zero, losses_out_of_range, unit_verdict}
-use Rattle.rules.specs.declared.Verdict.TheVariants.{Accepted}
 use Rattle.rules.specs.Sound.{Sound, SoundLosses}
 use Rattle.rules.specs.Lists.{Every}
 use Rattle.rules.proofs.Lists.{every-from, each-every, every_more, all-every}
@@ -46,7 +46,7 @@ module _ (u : Unit) where
 
   -- ---- accepted and sound
 
-  pub sound : unit_verdict u ≡ Accepted → Sound u
+  pub sound : unit_verdict u ≡ Ok tt → Sound u
   unfolding unit_verdict
   sound e =
       let ((zones, unused), ((((c0, c1), c2), b), (((loss-least, loss-greatest), rises), ((((least, range), greatest), (above, ascend)), (((previous, up), down), mark))))) = simp accepts at e in
@@ -69,7 +69,7 @@ module _ (u : Unit) where
         mark = mark;
       }
 
-  pub sound-accepted : Sound u → unit_verdict u ≡ Accepted
+  pub sound-accepted : Sound u → unit_verdict u ≡ Ok tt
   unfolding unit_verdict
   sound-accepted s =
       simp accepts (

@@ -1,4 +1,5 @@
 -- What a test and a verdict say of their parts: of numbers, of `&&` and `||`, of `refuses`, `then` and `in_order`.
+use Rattle.std.specs.Prelude.{Ok, Err}
 use Prim.Native.Nat.{ℕ, ◌≤◌, ◌<◌}
 use native.Mathlib.Omega.{arith}
 use mathlib.Core.Path.{◌≡◌, refl, ap}
@@ -11,10 +12,8 @@ use lib.Signed.{le_z, lt_z, ◌≤ℤ◌, ◌<ℤ◌}
 use borrow.Author.Tests.{ltb-true, ltb-false, leb-true, eqb-true, eqb-false, lt-ltb, le-ltb, le-leb, eq-eqb, ne_eqb, not-false}
 use Rattle.fields.proofs.Integers.{itself, at_most, under, when_ge, when_gt, not-under, not_at_most}
 use Rattle.rules.specs.Lists.{each, Every}
-use Rattle.rules.specs.Refusal.{◌refuses◌, ◌then◌, in_order}
+use Rattle.rules.specs.Refusal.{◌refuses◌, ◌then◌, in_order, Verdict}
 use Rattle.rules.specs.declared.Refusal.{Refusal}
-use Rattle.rules.specs.declared.Verdict.{Verdict}
-use Rattle.rules.specs.declared.Verdict.TheVariants.{Accepted, Refused}
 use Rattle.rules.proofs.Lists.{every-each, each-every}
 
 -- ---- tests: what each says of its numbers or parts
@@ -57,29 +56,29 @@ either_way P false f g = g refl
 
 -- ---- verdicts
 
-pub refused_not_accepted : {r : Refusal} → Refused r ≡ Accepted → ⊥
+pub refused_not_accepted : {r : Refusal} → ◌≡◌ {A = Verdict} (Err r) (Ok tt) → ⊥
 refused_not_accepted e = let z : ◌≡◌ {A = ℕ} 0 1 = cc in omega arith
 
 -- a condition that does not hold, and nothing else, is accepted
-pub refuses-accepted : (c : Bool) (r : Refusal) → (c refuses r ≡ Accepted) ↔ (c ≡ false)
+pub refuses-accepted : (c : Bool) (r : Refusal) → (c refuses r ≡ Ok tt) ↔ (c ≡ false)
 refuses-accepted true r = (λ e. absurd (refused_not_accepted e), λ e. absurd (true≢false e))
 refuses-accepted false r = (λ e. refl, λ e. refl)
 
-pub then_accepted : (v w : Verdict) → ((v then w) ≡ Accepted) ↔ ((v ≡ Accepted) × (w ≡ Accepted))
-then_accepted Accepted w = (λ e. (refl, e), λ p. p.1)
-then_accepted (Refused r) w = (λ e. absurd (refused_not_accepted e), λ p. p.0)
+pub then_accepted : (v w : Verdict) → ((v then w) ≡ Ok tt) ↔ ((v ≡ Ok tt) × (w ≡ Ok tt))
+then_accepted (Ok _) w = (λ e. (refl, e), λ p. p.1)
+then_accepted (Err r) w = (λ e. absurd (refused_not_accepted e), λ p. p.0)
 
-pub in_order_accepted : (vs : List Verdict) → (in_order vs ≡ Accepted) ↔ Every (λ v. v ≡ Accepted) vs
+pub in_order_accepted : (vs : List Verdict) → (in_order vs ≡ Ok tt) ↔ Every (λ v. v ≡ Ok tt) vs
 in_order_accepted [] = (λ e. tt, λ p. refl)
 in_order_accepted (v ∷ vs) =
     let both = then_accepted v (in_order vs) in
     let rest = in_order_accepted vs in
     (λ e. ((both.0 e).0, rest.0 (both.0 e).1), λ p. both.1 (p.0, rest.1 p.1))
 
-pub in_order_each : (n : ℕ) (f : ℕ → Verdict) → (in_order (each n f) ≡ Accepted) ↔ ((i : ℕ) → i < n → f i ≡ Accepted)
+pub in_order_each : (n : ℕ) (f : ℕ → Verdict) → (in_order (each n f) ≡ Ok tt) ↔ ((i : ℕ) → i < n → f i ≡ Ok tt)
 in_order_each n f =
     let both = in_order_accepted (each n f) in
-    (λ e. each-every (λ v. v ≡ Accepted) n f (both.0 e), λ h. both.1 (every-each (λ v. v ≡ Accepted) n f h))
+    (λ e. each-every (λ v. v ≡ Ok tt) n f (both.0 e), λ h. both.1 (every-each (λ v. v ≡ Ok tt) n f h))
 
 -- `simp accepts at e`, of an e that a verdict is Accepted, is the facts behind it as nested pairs; `simp accepts p` proves such an equation from them
 pub ruleset accepts =

@@ -1,6 +1,7 @@
 -- Rules 12.1 to 14.4 of docs/SPECIFICATION.md, and the order of checks of each call (rule 4.3): for each public call, on every input, its answer and the final contents of every buffer that it was lent.
 -- A refusal leaves each buffer as it was; otherwise the call's output stands at the buffer's start, and the rest is untouched.
-use Rattle.std.specs.Prelude.{ℕ, ◌+◌, ◌*◌, ◌/◌, ◌%◌, Bool, cond, not, ◌||◌, List, [], ◌∷◌, ◌++◌, map, ltb, eqb, ℤ, pos, length}
+use Rattle.rules.specs.declared.Refusal.{Refusal}
+use Rattle.std.specs.Prelude.{ℕ, ◌+◌, ◌*◌, ◌/◌, ◌%◌, Bool, cond, not, ◌||◌, List, [], ◌∷◌, ◌++◌, map, ltb, eqb, ℤ, pos, length, Ok, Err, Result}
 use Rattle.fields.specs.Field.{bytes, bytes_of_each}
 use Rattle.rules.specs.Lists.{over}
 use Rattle.rules.specs.Unit.{Unit}
@@ -17,10 +18,8 @@ use Rattle.rules.specs.declared.Refusal.TheVariants.{
   MultiplierOutOfRange,
   DemandOutOfRange,
 }
-use Rattle.rules.specs.declared.Verdict.{Verdict}
-use Rattle.rules.specs.declared.Dispatched.{Dispatched}
+use Rattle.rules.specs.Refusal.{Verdict}
 use Rattle.rules.specs.declared.Priced.{Priced}
-use Rattle.rules.specs.declared.Packed.{Packed}
 use Rattle.rules.specs.declared.Unpacked.{Unpacked}
 
 -- ---- the case: what dispatch, pricing and judging ask of the file, its checks and then step 1 (rule 11.1)
@@ -37,17 +36,17 @@ reply_bytes r =
     ++ bytes_of_each 2 r.outputs
 
 pub record DispatchResult : Type 0 where
-  pub answer : Dispatched
+  pub answer : Result ℕ Refusal
   pub reply : List ℕ
 
 unfoldable pub dispatch_verdict : List ℕ → List ℕ → Verdict
 dispatch_verdict file reply = ltb (length reply) 92 refuses BufferTooShort then case_verdict file
 
 unfoldable pub dispatch_ends : Verdict → List ℕ → List ℕ → DispatchResult
-dispatch_ends (Verdict.Refused r) file reply = record { answer = Dispatched.Refused r; reply = reply }
-dispatch_ends Verdict.Accepted file reply =
+dispatch_ends (Err r) file reply = record { answer = Err r; reply = reply }
+dispatch_ends (Ok _) file reply =
     let out = reply_bytes (solve (problem_in file)) in
-    record { answer = Dispatched.Replied (length out); reply = over out reply }
+    record { answer = Ok (length out); reply = over out reply }
 
 unfoldable pub dispatched : List ℕ → List ℕ → DispatchResult
 dispatched file reply = dispatch_ends (dispatch_verdict file reply) file reply
@@ -57,19 +56,19 @@ dispatched file reply = dispatch_ends (dispatch_verdict file reply) file reply
 unfoldable pub price_verdict : List ℕ → ℕ → Verdict
 price_verdict file m = ltb 65536 m refuses MultiplierOutOfRange then case_verdict file
 
-unfoldable pub price_ends : Verdict → List ℕ → ℕ → Priced
-price_ends (Verdict.Refused r) file m = Priced.Refused r
-price_ends Verdict.Accepted file m =
+unfoldable pub price_ends : Verdict → List ℕ → ℕ → Result Priced Refusal
+price_ends (Err r) file m = Err r
+price_ends (Ok _) file m =
     let q = problem_in file in
-    Priced.Valued (dual_value m q) (covers q.demand (total_net (units_of q) (choices m q)))
+    Ok (record { dual = dual_value m q; covers = covers q.demand (total_net (units_of q) (choices m q)) })
 
-unfoldable pub priced : List ℕ → ℕ → Priced
+unfoldable pub priced : List ℕ → ℕ → Result Priced Refusal
 priced file m = price_ends (price_verdict file m) file m
 
 -- ---- packing (rules 13.4, 13.7): a demand, rows and, in edition 2, a b1 for each of them become a file of edition e
 
 pub record PackResult : Type 0 where
-  pub answer : Packed
+  pub answer : Result ℕ Refusal
   pub file : List ℕ
 
 -- the length of `file_in` for some units: head, contents, bodies (`RoundTrip.length-file`)
@@ -88,10 +87,10 @@ pack_verdict e d rows b1 file =
     then ltb (length file) (file_length e (units_of_rows rows b1)) refuses FileBufferTooShort
 
 unfoldable pub pack_ends : Verdict → ℕ → ℕ → List ℕ → List ℤ → List ℕ → PackResult
-pack_ends (Verdict.Refused r) e d rows b1 file = record { answer = Packed.Refused r; file = file }
-pack_ends Verdict.Accepted e d rows b1 file =
+pack_ends (Err r) e d rows b1 file = record { answer = Err r; file = file }
+pack_ends (Ok _) e d rows b1 file =
     let out = file_in e d (units_of_rows rows b1) in
-    record { answer = Packed.Written (length out); file = over out file }
+    record { answer = Ok (length out); file = over out file }
 
 unfoldable pub packed_in : ℕ → ℕ → List ℕ → List ℤ → List ℕ → PackResult
 packed_in e d rows b1 file = pack_ends (pack_verdict e d rows b1 file) e d rows b1 file
@@ -105,47 +104,47 @@ packed2 d rows b1 file = packed_in 2 d rows b1 file
 -- ---- unpacking (rules 4.9, 13.5): a file of edition 1 becomes rows, a demand and a count
 
 pub record UnpackResult : Type 0 where
-  pub answer : Unpacked
+  pub answer : Result Unpacked Refusal
   pub rows : List ℕ
 
 unfoldable pub unpack_verdict : List ℕ → List ℕ → Verdict
 unpack_verdict file rows = ltb (length rows) 608 refuses BufferTooShort then edition_verdict 1 file then file_verdict file
 
 unfoldable pub unpack_ends : Verdict → List ℕ → List ℕ → UnpackResult
-unpack_ends (Verdict.Refused r) file rows = record { answer = Unpacked.Refused r; rows = rows }
-unpack_ends Verdict.Accepted file rows =
+unpack_ends (Err r) file rows = record { answer = Err r; rows = rows }
+unpack_ends (Ok _) file rows =
     let c = case_of file in
-    record { answer = Unpacked.Read c.demand (length c.units); rows = over (rows_of_units c.units) rows }
+    record { answer = Ok (record { demand = c.demand; count = length c.units }); rows = over (rows_of_units c.units) rows }
 
 unfoldable pub unpacked : List ℕ → List ℕ → UnpackResult
 unpacked file rows = unpack_ends (unpack_verdict file rows) file rows
 
 -- ---- the panel's calls, in C (rules 14.1 to 14.4), and the number and values of each answer: of dispatch and packing a length or a refusal's number; of pricing and unpacking 0 or a refusal's number, and two answers in a lent list, which has room for them or is refused with 1
 
-abbrev pub number_of_dispatched : Dispatched → ℕ
-number_of_dispatched (Dispatched.Replied n) = n
-number_of_dispatched (Dispatched.Refused r) = number_of r
+abbrev pub number_of_dispatched : Result ℕ Refusal → ℕ
+number_of_dispatched (Ok n) = n
+number_of_dispatched (Err r) = number_of r
 
-abbrev pub number_of_packed : Packed → ℕ
-number_of_packed (Packed.Written n) = n
-number_of_packed (Packed.Refused r) = number_of r
+abbrev pub number_of_packed : Result ℕ Refusal → ℕ
+number_of_packed (Ok n) = n
+number_of_packed (Err r) = number_of r
 
-abbrev pub number_of_priced : Priced → ℕ
-number_of_priced (Priced.Valued z c) = 0
-number_of_priced (Priced.Refused r) = number_of r
+abbrev pub number_of_priced : Result Priced Refusal → ℕ
+number_of_priced (Ok p) = 0
+number_of_priced (Err r) = number_of r
 
-abbrev pub number_of_unpacked : Unpacked → ℕ
-number_of_unpacked (Unpacked.Read d n) = 0
-number_of_unpacked (Unpacked.Refused r) = number_of r
+abbrev pub number_of_unpacked : Result Unpacked Refusal → ℕ
+number_of_unpacked (Ok u) = 0
+number_of_unpacked (Err r) = number_of r
 
 -- the two answers in the start of a lent list
-abbrev pub answers_of_priced : Priced → List ℤ → List ℤ
-answers_of_priced (Priced.Valued z c) answers = over (z ∷ cond c (pos 1) (pos 0) ∷ []) answers
-answers_of_priced (Priced.Refused r) answers = answers
+abbrev pub answers_of_priced : Result Priced Refusal → List ℤ → List ℤ
+answers_of_priced (Ok p) answers = over (p.dual ∷ cond p.covers (pos 1) (pos 0) ∷ []) answers
+answers_of_priced (Err r) answers = answers
 
-abbrev pub answers_of_unpacked : Unpacked → List ℤ → List ℤ
-answers_of_unpacked (Unpacked.Read d n) answers = over (pos d ∷ pos n ∷ []) answers
-answers_of_unpacked (Unpacked.Refused r) answers = answers
+abbrev pub answers_of_unpacked : Result Unpacked Refusal → List ℤ → List ℤ
+answers_of_unpacked (Ok u) answers = over (pos u.demand ∷ pos u.count ∷ []) answers
+answers_of_unpacked (Err r) answers = answers
 
 pub record PanelDispatchResult : Type 0 where
   pub number : ℕ

@@ -1,5 +1,6 @@
 -- The example cases: what a call is, and what it answers under the rules. The files, rows and units that the tables (`Table`, `TableOfRefusals`, `TableOfEditions`, and those of crate `tables`) put to the calls are in `CaseFiles`.
-use Rattle.std.specs.Prelude.{ℕ, ◌+◌, ◌*◌, Bool, List, [], ◌∷◌, ℤ, length, replicate}
+use Rattle.rules.specs.declared.Refusal.{Refusal}
+use Rattle.std.specs.Prelude.{ℕ, ◌+◌, ◌*◌, Bool, List, [], ◌∷◌, ℤ, length, replicate, Ok, Err, Result}
 use Rattle.fields.specs.Field.{number_after, signed, unsigned, bytes, bytes_of_each}
 use Rattle.rules.specs.Lists.{over}
 use Rattle.rules.specs.Numbers.{total, divided_up, greatest_at, natural}
@@ -11,8 +12,6 @@ use Rattle.rules.specs.Problem.{allocation, total_cost, total_net, Offer, offer,
 use Rattle.rules.specs.Choice.{priced_cost, preferred_from, preferred, choices, lowered, selected, dual_value, floor}
 use Rattle.rules.specs.Bisection.{Found, Reply, step4, step3, search, greatest_outputs, solvable, found, reply_of, solve}
 use Rattle.rules.specs.Calls.{reply_bytes, case_verdict, dispatch_verdict, dispatch_ends, dispatched, price_verdict, price_ends, priced, pack_verdict, pack_ends, packed_in, packed, packed2, unpack_verdict, unpack_ends, unpacked, panel_dispatched, panel_priced, panel_packed, panel_packed_2, panel_unpacked}
-use Rattle.rules.specs.declared.Dispatched.{Dispatched}
-use Rattle.rules.specs.declared.Packed.{Packed}
 use Rattle.rules.specs.declared.Priced.{Priced}
 use Rattle.rules.specs.declared.Unpacked.{Unpacked}
 
@@ -63,21 +62,21 @@ pub data Answer : Type 0 where
 abbrev pub buffer : List ℕ
 buffer = replicate 92 255
 
-abbrev pub of_dispatch : Dispatched → List ℕ → Answer
-of_dispatch (Dispatched.Replied n) reply = writes n reply
-of_dispatch (Dispatched.Refused r) reply = refuses (number_of r) reply
+abbrev pub of_dispatch : Result ℕ Refusal → List ℕ → Answer
+of_dispatch (Ok n) reply = writes n reply
+of_dispatch (Err r) reply = refuses (number_of r) reply
 
-abbrev pub of_packing : Packed → List ℕ → Answer
-of_packing (Packed.Written n) file = writes n file
-of_packing (Packed.Refused r) file = refuses (number_of r) file
+abbrev pub of_packing : Result ℕ Refusal → List ℕ → Answer
+of_packing (Ok n) file = writes n file
+of_packing (Err r) file = refuses (number_of r) file
 
-abbrev pub of_pricing : Priced → Answer
-of_pricing (Priced.Valued z c) = values z c
-of_pricing (Priced.Refused r) = refuses (number_of r) []
+abbrev pub of_pricing : Result Priced Refusal → Answer
+of_pricing (Ok p) = values p.dual p.covers
+of_pricing (Err r) = refuses (number_of r) []
 
-abbrev pub of_unpacking : Unpacked → List ℕ → Answer
-of_unpacking (Unpacked.Read d n) rows = reads d n rows
-of_unpacking (Unpacked.Refused r) rows = refuses (number_of r) rows
+abbrev pub of_unpacking : Result Unpacked Refusal → List ℕ → Answer
+of_unpacking (Ok u) rows = reads u.demand u.count rows
+of_unpacking (Err r) rows = refuses (number_of r) rows
 
 abbrev pub of_search : Found ℕ → Answer
 of_search f = finds f.best f.evaluated

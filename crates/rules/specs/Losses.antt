@@ -1,12 +1,10 @@
 -- Rules 2.11, 4.10, 7.2 and 16.17 of docs/SPECIFICATION.md: what number 18 stands for, as statements (since S-4). (They are proved in proofs/Rising.)
-use Rattle.std.specs.Prelude.{ℕ, suc, ◌<◌, false, List, ◌↔◌, ◌≡◌, pos, neg_ℤ, ◌≤ℤ◌}
+use Rattle.std.specs.Prelude.{ℕ, suc, ◌<◌, false, List, ◌↔◌, ◌≡◌, pos, neg_ℤ, ◌≤ℤ◌, Err}
 use Rattle.rules.specs.Unit.{Unit, net}
 use Rattle.rules.specs.Layout.{edition}
 use Rattle.rules.specs.Refusal.{losses_out_of_range, file_verdict}
 use Rattle.rules.specs.Calls.{packed}
 use Rattle.rules.specs.declared.Refusal.TheVariants.{LossesOutOfRange}
-use Rattle.rules.specs.declared.Verdict.{Verdict}
-use Rattle.rules.specs.declared.Packed.{Packed}
 
 -- net rises strictly with every step up to output 10,000
 abbrev pub NetRises : Unit → Type 0
@@ -23,7 +21,7 @@ RefusedExactlyWhereNetDoesNotRise = (u : Unit) → (losses_out_of_range u ≡ fa
 
 -- packing in edition 1 never meets it, nor does a file of edition 1
 abbrev pub PackingNeverMeets18 : Type 0
-PackingNeverMeets18 = (d : ℕ) (rows file : List ℕ) → (packed d rows file).answer ≡ Packed.Refused LossesOutOfRange → ⊥
+PackingNeverMeets18 = (d : ℕ) (rows file : List ℕ) → (packed d rows file).answer ≡ Err LossesOutOfRange → ⊥
 
 abbrev pub Edition1NeverMeets18 : Type 0
-Edition1NeverMeets18 = (file : List ℕ) → edition file ≡ 1 → file_verdict file ≡ Verdict.Refused LossesOutOfRange → ⊥
+Edition1NeverMeets18 = (file : List ℕ) → edition file ≡ 1 → file_verdict file ≡ Err LossesOutOfRange → ⊥

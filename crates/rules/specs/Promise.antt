@@ -1,5 +1,5 @@
 -- Demand 3, rules 16.8 to 16.14 of docs/SPECIFICATION.md, of a case file's bytes and of what dispatch answers and leaves in the reply. Of the code's types it names only the answer's enum.
-use Rattle.std.specs.Prelude.{ℕ, ◌+◌, ◌*◌, ◌≤◌, true, List, ◌↔◌, ◌≡◌, ℤ, pos, ◌-ℤ◌, length, ◌≤ℤ◌}
+use Rattle.std.specs.Prelude.{ℕ, ◌+◌, ◌*◌, ◌≤◌, true, List, ◌↔◌, ◌≡◌, ℤ, pos, ◌-ℤ◌, length, ◌≤ℤ◌, Ok, Err}
 use Rattle.fields.specs.Field.{field}
 use Rattle.rules.specs.Lists.{each}
 use Rattle.rules.specs.Layout.{Case, case_of}
@@ -9,8 +9,6 @@ use Rattle.rules.specs.Choice.{selected, floor}
 use Rattle.rules.specs.Bisection.{Reply, found}
 use Rattle.rules.specs.Calls.{DispatchResult}
 use Rattle.rules.specs.declared.Refusal.TheVariants.{NoAllocation}
-use Rattle.rules.specs.declared.Verdict.{Verdict}
-use Rattle.rules.specs.declared.Dispatched.{Dispatched}
 
 -- the reply that bytes spell
 unfoldable pub reply_in : List ℕ → Reply
@@ -62,11 +60,11 @@ pub record ReplyPromise (c : Case) (r : Reply) : Type 0 where
 -- what holds of dispatch's answer for an accepted file
 pub record Promise (file : List ℕ) (result : DispatchResult) : Type 0 where
   -- (rule 16.8) number 11 exactly where no allocation covers
-  pub refuses : (result.answer ≡ Dispatched.Refused NoAllocation) ↔ ((ps : List ℕ) → Permitted (case_of file) ps → Covering (case_of file) ps → ⊥)
+  pub refuses : (result.answer ≡ Err NoAllocation) ↔ ((ps : List ℕ) → Permitted (case_of file) ps → Covering (case_of file) ps → ⊥)
   -- (rule 16.9) and else a reply
-  pub replies : ¬ (result.answer ≡ Dispatched.Refused NoAllocation) → result.answer ≡ Dispatched.Replied (28 + 2 * length (case_of file).units)
-  pub reply : ¬ (result.answer ≡ Dispatched.Refused NoAllocation) → ReplyPromise (case_of file) (reply_in result.reply)
+  pub replies : ¬ (result.answer ≡ Err NoAllocation) → result.answer ≡ Ok (28 + 2 * length (case_of file).units)
+  pub reply : ¬ (result.answer ≡ Err NoAllocation) → ReplyPromise (case_of file) (reply_in result.reply)
 
 -- of every accepted file (rule 4.8) and every reply buffer that is long enough
 abbrev pub Demand3 : (List ℕ → List ℕ → DispatchResult) → Type 0
-Demand3 dispatch = (file reply : List ℕ) → file_verdict file ≡ Verdict.Accepted → 92 ≤ length reply → Promise file (dispatch file reply)
+Demand3 dispatch = (file reply : List ℕ) → file_verdict file ≡ Ok tt → 92 ≤ length reply → Promise file (dispatch file reply)

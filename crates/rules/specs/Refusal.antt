@@ -1,5 +1,5 @@
 -- Rules 4.1 to 4.10 of docs/SPECIFICATION.md: the refusals, their numbers, and the checks of a file and of a unit in their order. (The order of each call as a whole is in `Calls`, in `modbus/specs/View`, `judging/specs/Judging`, `sensitivity/specs/Floors`, `day/specs/Day`, `stepping/specs/Runs`, `branching/specs/Refining` and `gencost/specs/Row`.)
-use Rattle.std.specs.Prelude.{ℕ, zero, suc, ◌+◌, ◌*◌, Bool, true, cond, not, ◌&&◌, ◌||◌, List, [], ◌∷◌, ltb, leb, eqb, pos, neg_ℤ, ◌+ℤ◌, length, drop}
+use Rattle.std.specs.Prelude.{⊤, ℕ, zero, suc, ◌+◌, ◌*◌, Bool, true, cond, not, ◌&&◌, ◌||◌, List, [], ◌∷◌, ltb, leb, eqb, pos, neg_ℤ, ◌+ℤ◌, length, drop, Ok, Err, Result}
 use Rattle.std.specs.Int.Signed.{le_z, lt_z}
 use Rattle.rules.specs.Lists.{each, all}
 use Rattle.rules.specs.Unit.{Unit, Zone, zones}
@@ -35,8 +35,6 @@ use Rattle.rules.specs.declared.Refusal.TheVariants.{
   GencostNotWhole,
   GencostAboveLimit,
 }
-use Rattle.rules.specs.declared.Verdict.{Verdict}
-use Rattle.rules.specs.declared.Verdict.TheVariants.{Accepted, Refused}
 
 infixl 21 ◌refuses◌
 infixr 20 ◌then◌
@@ -71,21 +69,25 @@ number_of GencostMalformed = 26
 number_of GencostNotWhole = 27
 number_of GencostAboveLimit = 28
 
+-- what checking finds: nothing, or the first refusal
+abbrev pub Verdict : Type 0
+Verdict = Result ⊤ Refusal
+
 -- what checking finds, as a number: 0 where nothing is refused
 abbrev pub number_of_verdict : Verdict → ℕ
-number_of_verdict Accepted = 0
-number_of_verdict (Refused r) = number_of r
+number_of_verdict (Ok _) = 0
+number_of_verdict (Err r) = number_of r
 
 -- (rule 4.3) a condition that refuses, and one check after another
 abbrev pub ◌refuses◌ : Bool → Refusal → Verdict
-condition refuses r = cond condition (Refused r) Accepted
+condition refuses r = cond condition (Err r) (Ok tt)
 
 abbrev pub ◌then◌ : Verdict → Verdict → Verdict
-Accepted then next = next
-Refused r then next = Refused r
+Ok _ then next = next
+Err r then next = Err r
 
 abbrev pub in_order : List Verdict → Verdict
-in_order [] = Accepted
+in_order [] = Ok tt
 in_order (v ∷ vs) = v then in_order vs
 
 -- ---- head (rule 2.2)

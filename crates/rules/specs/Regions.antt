@@ -1,9 +1,8 @@
 -- Rule 5.6 of docs/SPECIFICATION.md. The regions of a unit: its permitted outputs as intervals that ascend.
-use Rattle.std.specs.Prelude.{ℕ, suc, ◌+◌, ◌-◌, ◌≤◌, max, min, Bool, true, false, cond, ◌&&◌, ◌||◌, List, [], ◌∷◌, ◌++◌, map, ◌↔◌, ◌≡◌, leb, ltb, eqb}
+use Rattle.std.specs.Prelude.{ℕ, suc, ◌+◌, ◌-◌, ◌≤◌, max, min, Bool, true, false, cond, ◌&&◌, ◌||◌, List, [], ◌∷◌, ◌++◌, map, ◌↔◌, ◌≡◌, leb, ltb, eqb, Ok}
 use Rattle.rules.specs.Lists.{filter}
 use Rattle.rules.specs.Unit.{Unit, Zone, zones, permitted}
 use Rattle.rules.specs.Refusal.{unit_verdict}
-use Rattle.rules.specs.declared.Verdict.{Verdict}
 
 -- the outputs from low to high
 pub record Region : Type 0 where
@@ -49,4 +48,4 @@ pub record RegionsOf (u : Unit) : Type 0 where
   pub ascend : AscendFrom 0 (regions u)
 
 abbrev pub RegionsHoldPermitted : Type 0
-RegionsHoldPermitted = (u : Unit) → unit_verdict u ≡ Verdict.Accepted → RegionsOf u
+RegionsHoldPermitted = (u : Unit) → unit_verdict u ≡ Ok tt → RegionsOf u

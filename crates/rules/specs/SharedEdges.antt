@@ -1,6 +1,7 @@
 -- Rules 2.8, 5.6 and 16.23 to 16.26 of docs/SPECIFICATION.md (S-13), as statements: what number 9 asks of limits and zones, what the rule on zones that share an edge keeps, and what such an edge is. (They are proved in proofs/SharedEdges.)
 -- The rule as it was before S-13 stands here and nowhere else.
-use Rattle.std.specs.Prelude.{ℕ, suc, ◌%◌, ◌≤◌, ◌<◌, Bool, true, false, not, ◌&&◌, ◌||◌, List, [], ◌∷◌, ◌++◌, map, ◌↔◌, ◌≡◌, ltb, leb, eqb, length}
+use Rattle.rules.specs.declared.Refusal.{Refusal}
+use Rattle.std.specs.Prelude.{ℕ, suc, ◌%◌, ◌≤◌, ◌<◌, Bool, true, false, not, ◌&&◌, ◌||◌, List, [], ◌∷◌, ◌++◌, map, ◌↔◌, ◌≡◌, ltb, leb, eqb, length, Ok, Result}
 use Rattle.rules.specs.Lists.{each}
 use Rattle.rules.specs.Unit.{Unit, Zone, zone_at, zones, in_ramp_window, permitted}
 use Rattle.rules.specs.Layout.{body_length, unit_of_body, edition, count, body, unit_at, units_of_rows}
@@ -22,7 +23,7 @@ use Rattle.rules.specs.declared.Refusal.TheVariants.{
   RowsInvalid,
   FileBufferTooShort,
 }
-use Rattle.rules.specs.declared.Verdict.{Verdict}
+use Rattle.rules.specs.Refusal.{Verdict}
 use Rattle.rules.specs.declared.Priced.{Priced}
 
 -- ---- (rules 2.8, 16.23) what number 9 asks, zone by zone: exactly this
@@ -77,7 +78,7 @@ abbrev pub dispatched_before : List ℕ → List ℕ → DispatchResult
 dispatched_before file reply =
     dispatch_ends (ltb (length reply) 92 refuses BufferTooShort then file_verdict_before file then not (solvable (problem_in file)) refuses NoAllocation) file reply
 
-abbrev pub priced_before : List ℕ → ℕ → Priced
+abbrev pub priced_before : List ℕ → ℕ → Result Priced Refusal
 priced_before file m = price_ends (ltb 65536 m refuses MultiplierOutOfRange then file_verdict_before file then not (solvable (problem_in file)) refuses NoAllocation) file m
 
 abbrev pub unpacked_before : List ℕ → List ℕ → UnpackResult
@@ -119,8 +120,8 @@ pub record SameWithoutSharedEdge : Type 0 where
 
 pub record AcceptedStays : Type 0 where
   pub units : (u : Unit) → limits_invalid_before u ≡ false → limits_invalid u ≡ false
-  pub files : (file : List ℕ) → file_verdict_before file ≡ Verdict.Accepted → CallsAsBefore file
-  pub rows : (d : ℕ) (rows file : List ℕ) → pack_verdict_before d rows file ≡ Verdict.Accepted → packed d rows file ≡ packed_before d rows file
+  pub files : (file : List ℕ) → file_verdict_before file ≡ Ok tt → CallsAsBefore file
+  pub rows : (d : ℕ) (rows file : List ℕ) → pack_verdict_before d rows file ≡ Ok tt → packed d rows file ≡ packed_before d rows file
 
 -- ---- (rule 16.26) the edge that two zones y and z share
 
@@ -138,7 +139,7 @@ pub record SharedPoint (u : Unit) (y z : Zone) : Type 0 where
 abbrev pub SharedEdgePermitted : Type 0
 SharedEdgePermitted =
     (u : Unit) (before behind : List Zone) (y z : Zone)
-    → unit_verdict u ≡ Verdict.Accepted
+    → unit_verdict u ≡ Ok tt
     → in_ramp_window u y.upper ≡ true
     → zones u ≡ before ++ (y ∷ z ∷ behind)
     → y.upper ≡ z.lower

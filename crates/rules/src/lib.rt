@@ -1,4 +1,5 @@
-// The answers of the public calls. What they mean is docs/SPECIFICATION.md as definitions, in specs/.
+// Why a call refuses, and what it answers otherwise: each answers a Result with a Refusal as its error. What these mean is
+// docs/SPECIFICATION.md as definitions, in specs/.
 
 // Why a call refuses. Each has a number (rule 4.2): `Refusal.number_of` in specs/, `refusal_number::number` in code.
 #![tactic(auto)]
@@ -62,37 +63,16 @@ pub enum Refusal {
     GencostAboveLimit,
 }
 
-// What checking finds.
+// A priced multiplier: its dual value, and whether its choices cover the demand.
 #[derive(Clone, Copy)]
-pub enum Verdict {
-    Accepted,
-    Refused(Refusal),
+pub struct Priced {
+    pub dual: i64,
+    pub covers: bool,
 }
 
-// What dispatch answers: the length of the reply that it wrote.
+// An unpacked file: the demand, and the number of rows written.
 #[derive(Clone, Copy)]
-pub enum Dispatched {
-    Replied(usize),
-    Refused(Refusal),
-}
-
-// What pricing answers: the dual value, and whether the choices cover the demand.
-#[derive(Clone, Copy)]
-pub enum Priced {
-    Valued { dual: i64, covers: bool },
-    Refused(Refusal),
-}
-
-// What packing answers: the length of the case file that it wrote.
-#[derive(Clone, Copy)]
-pub enum Packed {
-    Written(usize),
-    Refused(Refusal),
-}
-
-// What unpacking answers: the demand, and the number of rows that it wrote.
-#[derive(Clone, Copy)]
-pub enum Unpacked {
-    Read { demand: u32, count: u32 },
-    Refused(Refusal),
+pub struct Unpacked {
+    pub demand: u32,
+    pub count: u32,
 }

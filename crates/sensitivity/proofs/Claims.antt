@@ -1,4 +1,5 @@
 -- What holds of the floors: each bounds what covers its demand, by weak duality of the same offers with that demand; they rise with the demand; the case's own demand has the reply's bound; and the call refuses what dispatch refuses.
+use Rattle.std.specs.Prelude.{Ok, Err}
 use Prim.Native.Nat.{ℕ, zero, suc, ◌*◌, ◌≤◌, ◌<◌}
 use native.Mathlib.Omega.{arith}
 use mathlib.Core.Path.{◌≡◌, refl, sym, ap, subst, ◌∙◌}
@@ -15,7 +16,7 @@ use Rattle.rules.specs.Lists.{over, Every}
 use Rattle.rules.specs.Demands.{demands_invalid}
 use Rattle.rules.specs.Numbers.{divided_up, greatest_at}
 use Rattle.rules.specs.Layout.{case_of}
-use Rattle.rules.specs.Refusal.{◌refuses◌, ◌then◌}
+use Rattle.rules.specs.Refusal.{◌refuses◌, ◌then◌, Verdict}
 use Rattle.rules.specs.Problem.{total_cost, total_net, covers, Problem, units_of, target, problem_of, problem_in}
 use Rattle.rules.specs.Choice.{selected, floor}
 use Rattle.rules.specs.Bisection.{Found, found, greatest_outputs, solvable}
@@ -23,8 +24,6 @@ use Rattle.rules.specs.Calls.{case_verdict, dispatch_verdict, dispatch_ends, dis
 use Rattle.rules.specs.Promise.{Permitted, GreatestFloor, cost_less_gap, reply_in}
 use Rattle.rules.specs.declared.Refusal.{Refusal}
 use Rattle.rules.specs.declared.Refusal.TheVariants.{NoAllocation, DemandsInvalid, FloorsTooShort}
-use Rattle.rules.specs.declared.Verdict.{Verdict}
-use Rattle.rules.specs.declared.Dispatched.{Dispatched}
 use Rattle.rules.specs.Sound.{Sound}
 use Rattle.rules.proofs.Verdicts.{then_accepted}
 use Rattle.rules.proofs.Encoding.SoundFile.{units-sound}
@@ -39,7 +38,7 @@ use Rattle.rules.proofs.Economics.Solvable.{case-proper, solvable-available}
 use Rattle.rules.proofs.Economics.Solution.{same-cost, same-net, permitted-given, greatest-floor}
 use Rattle.rules.proofs.Demand3.{case-accepted, demand3}
 use Rattle.rules.proofs.Replied.{replied}
-use Rattle.sensitivity.specs.declared.Floored.{Floored}
+use Rattle.std.specs.Prelude.{Ok, Err}
 use Rattle.sensitivity.specs.Floors.{dual_for, floor_for, floors_verdict, floors_end, floored, panel_floored}
 use Rattle.sensitivity.specs.Claims.{CarriedDual, OfThatDemand, Bounds, OwnDemand, NotAboveDispatch, AlikeFromOne, OneAtZero, ToldInC, RefusesAsDispatch}
 use Rattle.sensitivity.proofs.Carried.{at, dual_for_lem, floor_for_lem, dual-rises, dual_at_zero}
@@ -56,7 +55,7 @@ of_that_demand q d = greatest-same (λ m. divided_up (dual_for m q d) 100000) (�
 
 -- ---- of an accepted case
 
-module _ (file : List ℕ) (e : case_verdict file ≡ Verdict.Accepted) where
+module _ (file : List ℕ) (e : case_verdict file ≡ Ok tt) where
   abbrev q : Problem
   q = problem_in file
 
@@ -116,11 +115,11 @@ one-greatest q {y} {z} a b =
 -- ---- of a call that wrote floors
 
 record Wrote (file demands : List ℕ) (floors : List ℤ) (n : ℕ) : Type 0 where
-  accepted : case_verdict file ≡ Verdict.Accepted
+  accepted : case_verdict file ≡ Ok tt
   count : n ≡ length demands
   after : (floored file demands floors).floors ≡ over (map (floor_for (problem_in file)) demands) floors
 
-wrote : (file demands : List ℕ) (floors : List ℤ) (n : ℕ) → (floored file demands floors).answer ≡ Floored.Written n → Wrote file demands floors n
+wrote : (file demands : List ℕ) (floors : List ℤ) (n : ℕ) → (floored file demands floors).answer ≡ Ok n → Wrote file demands floors n
 unfolding floored floors_verdict
 wrote file demands floors n e =
     let (verdict, count, after) = ended (floors_verdict file demands floors) file demands floors n e in
@@ -152,12 +151,12 @@ bounds file demands floors n e =
     )
 
 -- what a reply claims is the greatest floor of its case
-reply-greatest : (file buffer : List ℕ) (k : ℕ) → (dispatched file buffer).answer ≡ Dispatched.Replied k → GreatestFloor (problem_in file) (cost_less_gap (reply_in (dispatched file buffer).reply))
+reply-greatest : (file buffer : List ℕ) (k : ℕ) → (dispatched file buffer).answer ≡ Ok k → GreatestFloor (problem_in file) (cost_less_gap (reply_in (dispatched file buffer).reply))
 reply-greatest file buffer k r =
     let d = replied file buffer k r in
     ((demand3 file buffer (case-accepted file d.accepted).0 d.room).reply (λ f. absurd (let z : ◌≡◌ {A = ℕ} 0 1 = differ (sym r ∙ f) in omega arith))).greatest_floor
   where
-    differ : Dispatched.Replied k ≡ Dispatched.Refused NoAllocation → ◌≡◌ {A = ℕ} 0 1
+    differ : Ok k ≡ Err NoAllocation → ◌≡◌ {A = ℕ} 0 1
     differ g = cc
 
 pub own-demand : OwnDemand floored
@@ -190,10 +189,10 @@ told_in_c file demands floors answers h = floors-told file demands floors answer
 -- ---- of a call that is refused
 
 -- both calls refuse with what the case is refused with
-as_case : (v : Verdict) (file demands buffer : List ℕ) (floors : List ℤ) (r : Refusal) → ((floors_end v file demands floors).answer ≡ Floored.Refused r) ↔ ((dispatch_ends v file buffer).answer ≡ Dispatched.Refused r)
+as_case : (v : Verdict) (file demands buffer : List ℕ) (floors : List ℤ) (r : Refusal) → ((floors_end v file demands floors).answer ≡ Err r) ↔ ((dispatch_ends v file buffer).answer ≡ Err r)
 unfolding floors_end dispatch_ends
-as_case Verdict.Accepted file demands buffer floors r = (λ e. absurd (let z : ◌≡◌ {A = ℕ} 0 1 = cc in omega arith), λ e. absurd (let z : ◌≡◌ {A = ℕ} 0 1 = cc in omega arith))
-as_case (Verdict.Refused s) file demands buffer floors r = (λ e. let z : s ≡ r = cc in rw z refl, λ e. let z : s ≡ r = cc in rw z refl)
+as_case (Ok _) file demands buffer floors r = (λ e. absurd (let z : ◌≡◌ {A = ℕ} 0 1 = cc in omega arith), λ e. absurd (let z : ◌≡◌ {A = ℕ} 0 1 = cc in omega arith))
+as_case (Err s) file demands buffer floors r = (λ e. let z : s ≡ r = cc in rw z refl, λ e. let z : s ≡ r = cc in rw z refl)
 
 pub refuses_as_dispatch : RefusesAsDispatch floored
 unfolding floored floors_verdict dispatched dispatch_verdict

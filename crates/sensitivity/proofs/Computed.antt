@@ -2,17 +2,18 @@
 use Prim.Native.Nat.{ℕ, ◌+◌, ◌*◌, ◌≤◌}
 use native.Mathlib.Nat.{mul-le-mul}
 use native.Mathlib.Omega.{arith}
-use mathlib.Core.Path.{◌≡◌, ap, ap₂, sym, ◌∙◌}
-use mathlib.Core.Bool.{cond}
+use mathlib.Core.Path.{◌≡◌, refl, ap, ap₂, sym, ◌∙◌}
+use mathlib.Core.Bool.{Bool, true, false, cond}
 use mathlib.Core.List.{List, [], ◌∷◌}
 use lib.IntN.{ℤ, ◌+ℤ◌, ◌*ℤ◌}
 use lib.ListN.{length}
-use lib.Signed.{le_z}
+use lib.Signed.{le_z, lt_z}
+use Rattle.std.specs.Int.{int_max}
 use mir.Syntax.{w64}
 use mir.Val.{SFits, to_z, of_z}
 use mir.Facts.{to_z-of_z}
 use Rattle.fields.specs.Integers.{Is, positive_part, negative_part}
-use Rattle.fields.proofs.Integers.{itself, is_add, is-product, fits}
+use Rattle.fields.proofs.Integers.{itself, is_add, is-product, fits, when_le, when_lt, when_ge, when_gt}
 use Rattle.rules.specs.Numbers.{greatest_at}
 use Rattle.rules.specs.Problem.{Problem}
 use Rattle.bisection.specs.Clauses.{multiplier_at, dual_at, Traces}
@@ -59,6 +60,16 @@ module _ {m d s : ℤ} (p : PairInRange m d) (h : Shifted s) where
 
 -- ---- the greatest of the first k pairs
 
+-- the greater of two, by either order
+greater : (x g : ℤ) → int_max x g ≡ cond (le_z x g) g x
+greater x g = by (le_z x g) (lt_z g x) refl refl
+  where
+    by : (t u : Bool) → le_z x g ≡ t → lt_z g x ≡ u → cond u x g ≡ cond t g x
+    by true true e f = absurd (omega (arith, when_le (itself x) (itself g) e, when_lt (itself g) (itself x) f))
+    by true false e f = refl
+    by false true e f = refl
+    by false false e f = absurd (omega (arith, when_gt (itself x) (itself g) e, when_ge (itself g) (itself x) f))
+
 pub record Reached (trace : List ℤ) (shift : ℤ) (k : ℕ) (g : ℤ) : Type 0 where
   pub greatest : (q : Problem) (ms : List ℕ) → Traces q ms trace → length ms ≡ k → g ≡ greatest_at (carried q shift) ms
 
@@ -82,5 +93,5 @@ module _ (trace : List ℤ) (shift : ℤ) where
       let here : x ≡ carried q shift m = e ∙ ap (λ (i : ℕ). dual_at trace i +ℤ multiplier_at trace i *ℤ shift) (sym count) ∙ ap₂ (λ (y z : ℤ). y +ℤ z *ℤ shift) t.1 t.0 in
       ap₂ (λ (y z : ℤ). cond (le_z y z) z y) here rest
 
-  pub reached-more : {k : ℕ} {g x : ℤ} → 1 ≤ k → Reached trace shift k g → x ≡ dual_at trace k +ℤ multiplier_at trace k *ℤ shift → Reached trace shift (k + 1) (cond (le_z x g) g x)
-  reached-more some r e = record { greatest = more some r e }
+  pub reached-more : {k : ℕ} {g x : ℤ} → 1 ≤ k → Reached trace shift k g → x ≡ dual_at trace k +ℤ multiplier_at trace k *ℤ shift → Reached trace shift (k + 1) (int_max x g)
+  reached-more {g = g} {x} some r e = record { greatest = λ q ms t l. greater x g ∙ more some r e q ms t l }

@@ -1,4 +1,5 @@
 -- The trace that the search leaves for an accepted case: as many pairs as there were evaluations, each in range.
+use Rattle.std.specs.Prelude.{Ok}
 use Prim.Native.Nat.{ℕ, ◌≤◌, ◌<◌}
 use native.Mathlib.Nat.{mul-le-mul}
 use native.Mathlib.Decide.{ℕ_discrete}
@@ -14,7 +15,6 @@ use Rattle.rules.specs.Problem.{total_cost, total_net, Problem, units_of, target
 use Rattle.rules.specs.Choice.{choices, dual_value}
 use Rattle.rules.specs.Bisection.{found}
 use Rattle.rules.specs.Calls.{case_verdict}
-use Rattle.rules.specs.declared.Verdict.{Verdict}
 use Rattle.rules.specs.Lists.{Every}
 use Rattle.rules.specs.Sound.{Sound}
 use Rattle.rules.proofs.Encoding.SoundFile.{units-sound}
@@ -56,7 +56,7 @@ some-member {ms = n ∷ ms} i = omega arith
 
 -- ---- of an accepted case
 
-module _ (file : List ℕ) (e : case_verdict file ≡ Verdict.Accepted) where
+module _ (file : List ℕ) (e : case_verdict file ≡ Ok tt) where
   abbrev q : Problem
   q = problem_in file
 

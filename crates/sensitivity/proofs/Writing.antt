@@ -2,14 +2,14 @@
 use Prim.Native.Nat.{ℕ, ◌+◌, ◌≤◌, ◌<◌}
 use native.Mathlib.Numerals.{add-one}
 use native.Mathlib.Omega.{arith}
-use mathlib.Core.Path.{◌≡◌, refl, sym, ap, ◌∙◌}
+use mathlib.Core.Path.{◌≡◌, sym, ap, ◌∙◌}
 use mathlib.Core.List.{List, [], ◌∷◌, ◌++◌, map, map-append}
 use lib.IntN.{ℤ}
 use lib.ListN.{length, get_or, take, set, length-set}
 use lib.Seq.{take-suc, take_all}
 use Rattle.rules.specs.Numbers.{divided_up, greatest_at}
 use Rattle.rules.specs.Problem.{Problem, target}
-use Rattle.rules.proofs.Encoding.Front.{Front, front-none, front-set, front-over}
+use Rattle.rules.proofs.Encoding.Front.{Front, front-set, front-over}
 use Rattle.bisection.specs.Clauses.{Traces}
 use Rattle.sensitivity.specs.Floors.{dual_for}
 use Rattle.sensitivity.specs.Clauses.{FloorsWritten}
@@ -24,9 +24,6 @@ pub record Writing (trace : List ℤ) (count t : ℕ) (demands : List ℕ) (befo
   pub held : (q : Problem) (ms : List ℕ) → Traces q ms trace → length ms ≡ count → t ≡ target q → Front before (map (floor_of q ms) (take j demands)) floors j
 
 module _ {trace : List ℤ} {count t : ℕ} {demands : List ℕ} {before : List ℤ} where
-  pub writing_starts : Writing trace count t demands before before 0
-  writing_starts = record { within = omega arith; same_length = refl; held = λ q ms _ _ _. front-none before }
-
   module _ {floors : List ℤ} {j : ℕ} (w : Writing trace count t demands before floors j) where
     pub writing_more : (x : ℤ) → j < length demands → length demands ≤ length before → ((q : Problem) (ms : List ℕ) → Traces q ms trace → length ms ≡ count → t ≡ target q → x ≡ floor_of q ms (get_or demands j 0)) → Writing trace count t demands before (set floors j x) (j + 1)
     writing_more x l room e =

@@ -1,12 +1,12 @@
 -- Rule 20.10 of docs/SPECIFICATION.md: floors for other demands, case by case. Above each row stands the wrong rule that it shows. A lent list has 9 in each place, so that an untouched one shows.
-use Rattle.std.specs.Prelude.{ℕ, ◌+◌, ◌*◌, List, [], ◌∷◌, ◌++◌, map, refl, ℤ, pos, neg_ℤ, length, replicate}
+use Rattle.std.specs.Prelude.{ℕ, ◌+◌, ◌*◌, List, [], ◌∷◌, ◌++◌, map, refl, ℤ, pos, neg_ℤ, length, replicate, Ok, Err, Result}
 use Rattle.rules.specs.Lists.{each}
 use Rattle.rules.specs.Layout.{file_of}
 use Rattle.rules.specs.Refusal.{number_of}
 use Rattle.rules.specs.TableRows.{Row, Holds}
 use Rattle.rules.specs.Cases as cases
 use Rattle.rules.specs.CaseFiles.{u5, site, short_head, other_edition, no_unit, demand_above, byte_too_many, no_zone, linear_cost_above, edge_at_least, other_mark, put, with_linear_loss, U, lossy, marked, costing, priced-at, shared_edge_file}
-use Rattle.sensitivity.specs.declared.Floored.{Floored}
+use Rattle.rules.specs.declared.Refusal.{Refusal}
 use Rattle.sensitivity.specs.Floors.{dual_for, floor_for, floors_verdict, floors_end, floored, panel_floored}
 
 pub data Call : Type 0 where
@@ -26,9 +26,9 @@ pub data Answer : Type 0 where
 abbrev pub lent : ℕ → List ℤ
 lent room = replicate room (pos 9)
 
-abbrev pub of_floored : Floored → List ℤ → Answer
-of_floored (Floored.Written n) floors = writes n floors
-of_floored (Floored.Refused r) floors = refuses (number_of r) floors
+abbrev pub of_floored : Result ℕ Refusal → List ℤ → Answer
+of_floored (Ok n) floors = writes n floors
+of_floored (Err r) floors = refuses (number_of r) floors
 
 -- what the rules give
 unfoldable pub answer : Call → Answer

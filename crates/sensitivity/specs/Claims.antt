@@ -1,5 +1,5 @@
 -- Rules 20.2, 20.3 and 20.5 to 20.9 of docs/SPECIFICATION.md: what holds of every floor that the call writes, and what it refuses, as statements. (They are proved in proofs/Claims.)
-use Rattle.std.specs.Prelude.{ℕ, ◌≤◌, ◌<◌, true, false, List, [], ◌∷◌, ◌≡◌, ◌↔◌, ℤ, pos, length, get_or, ◌≤ℤ◌}
+use Rattle.std.specs.Prelude.{ℕ, ◌≤◌, ◌<◌, true, false, List, [], ◌∷◌, ◌≡◌, ◌↔◌, ℤ, pos, length, get_or, ◌≤ℤ◌, Ok, Err}
 use Rattle.rules.specs.Demands.{demands_invalid}
 use Rattle.rules.specs.Layout.{Case, case_of}
 use Rattle.rules.specs.Problem.{Problem, total_cost, total_net, covers, problem_in}
@@ -8,8 +8,6 @@ use Rattle.rules.specs.Bisection.{found}
 use Rattle.rules.specs.Calls.{dispatched}
 use Rattle.rules.specs.Promise.{Permitted, cost_less_gap, reply_in}
 use Rattle.rules.specs.declared.Refusal.{Refusal}
-use Rattle.rules.specs.declared.Dispatched.{Dispatched}
-use Rattle.sensitivity.specs.declared.Floored.{Floored}
 use Rattle.sensitivity.specs.Floors.{FloorsResult, PanelFloorsResult, number_of_floored, answers_of_floored}
 
 -- (rule 20.3) the dual value carried to d is that of the same offers with demand d
@@ -33,15 +31,15 @@ pub record Floors (c : Case) (demands : List ℕ) (floors : List ℤ) : Type 0 w
 abbrev pub Bounds : (List ℕ → List ℕ → List ℤ → FloorsResult) → Type 0
 Bounds call =
     (file demands : List ℕ) (floors : List ℤ) (n : ℕ)
-    → (call file demands floors).answer ≡ Floored.Written n
+    → (call file demands floors).answer ≡ Ok n
     → (n ≡ length demands) × Floors (case_of file) demands (call file demands floors).floors
 
 -- (rule 20.6) the floor for the case's own demand is the reply's cost less its gap
 abbrev pub OwnDemand : (List ℕ → List ℕ → List ℤ → FloorsResult) → Type 0
 OwnDemand call =
     (file demands buffer : List ℕ) (floors : List ℤ) (n k i : ℕ)
-    → (call file demands floors).answer ≡ Floored.Written n
-    → (dispatched file buffer).answer ≡ Dispatched.Replied k
+    → (call file demands floors).answer ≡ Ok n
+    → (dispatched file buffer).answer ≡ Ok k
     → i < length demands
     → get_or demands i 0 ≡ (case_of file).demand
     → get_or (call file demands floors).floors i (pos 0) ≡ cost_less_gap (reply_in (dispatched file buffer).reply)
@@ -50,8 +48,8 @@ OwnDemand call =
 abbrev pub NotAboveDispatch : (List ℕ → List ℕ → List ℤ → FloorsResult) → Type 0
 NotAboveDispatch call =
     (file demands other buffer : List ℕ) (floors : List ℤ) (n k i : ℕ)
-    → (call file demands floors).answer ≡ Floored.Written n
-    → (dispatched other buffer).answer ≡ Dispatched.Replied k
+    → (call file demands floors).answer ≡ Ok n
+    → (dispatched other buffer).answer ≡ Ok k
     → i < length demands
     → case_of other ≡ record { demand = get_or demands i 0; units = (case_of file).units }
     → get_or (call file demands floors).floors i (pos 0) ≤ℤ cost_less_gap (reply_in (dispatched other buffer).reply)
@@ -60,7 +58,7 @@ NotAboveDispatch call =
 abbrev pub AlikeFromOne : (List ℕ → List ℕ → List ℤ → FloorsResult) → Type 0
 AlikeFromOne call =
     (file demands : List ℕ) (floors : List ℤ) (n i j : ℕ)
-    → (call file demands floors).answer ≡ Floored.Written n
+    → (call file demands floors).answer ≡ Ok n
     → (found (problem_in file)).evaluated ≡ 0 ∷ []
     → i < length demands
     → j < length demands
@@ -85,4 +83,4 @@ RefusesAsDispatch call =
     → demands_invalid demands ≡ false
     → length demands ≤ length floors
     → 92 ≤ length buffer
-    → ((call file demands floors).answer ≡ Floored.Refused r) ↔ ((dispatched file buffer).answer ≡ Dispatched.Refused r)
+    → ((call file demands floors).answer ≡ Err r) ↔ ((dispatched file buffer).answer ≡ Err r)

@@ -1,5 +1,5 @@
 -- Rules 20.1 to 20.4 and 20.8 of docs/SPECIFICATION.md: floors for other demands than the case's, from the evaluations of one search (sensitivity of the dual bound to the demand). What the call answers and writes, on every input.
-use Rattle.std.specs.Prelude.{ℕ, ◌*◌, List, [], ◌∷◌, map, ltb, ℤ, pos, ◌+ℤ◌, ◌-ℤ◌, ◌*ℤ◌, length}
+use Rattle.std.specs.Prelude.{ℕ, ◌*◌, List, [], ◌∷◌, map, ltb, Ok, Err, Result, ℤ, pos, ◌+ℤ◌, ◌-ℤ◌, ◌*ℤ◌, length}
 use Rattle.rules.specs.Lists.{over}
 use Rattle.rules.specs.Demands.{demands_invalid}
 use Rattle.rules.specs.Numbers.{divided_up, greatest_at}
@@ -8,9 +8,9 @@ use Rattle.rules.specs.Problem.{Problem, problem_in}
 use Rattle.rules.specs.Choice.{dual_value}
 use Rattle.rules.specs.Bisection.{found}
 use Rattle.rules.specs.Calls.{case_verdict}
+use Rattle.rules.specs.declared.Refusal.{Refusal}
 use Rattle.rules.specs.declared.Refusal.TheVariants.{BufferTooShort, DemandsInvalid, FloorsTooShort}
-use Rattle.rules.specs.declared.Verdict.{Verdict}
-use Rattle.sensitivity.specs.declared.Floored.{Floored}
+use Rattle.rules.specs.Refusal.{Verdict}
 
 -- (rule 20.3) the dual value of m carried from the case's demand to d: each step more is worth m × 100,000,000 more
 unfoldable pub dual_for : ℕ → Problem → ℕ → ℤ
@@ -28,28 +28,29 @@ floors_verdict file demands floors =
     then ltb (length floors) (length demands) refuses FloorsTooShort
     then case_verdict file
 
+-- how many floors are written, or why none is
 pub record FloorsResult : Type 0 where
-  pub answer : Floored
+  pub answer : Result ℕ Refusal
   pub floors : List ℤ
 
 -- (rule 20.4) the floors stand in the order of the demands, and nothing behind them is touched
 unfoldable pub floors_end : Verdict → List ℕ → List ℕ → List ℤ → FloorsResult
-floors_end (Verdict.Refused r) file demands floors = record { answer = Floored.Refused r; floors = floors }
-floors_end Verdict.Accepted file demands floors =
-    record { answer = Floored.Written (length demands); floors = over (map (floor_for (problem_in file)) demands) floors }
+floors_end (Err r) file demands floors = record { answer = Err r; floors = floors }
+floors_end (Ok _) file demands floors =
+    record { answer = Ok (length demands); floors = over (map (floor_for (problem_in file)) demands) floors }
 
 unfoldable pub floored : List ℕ → List ℕ → List ℤ → FloorsResult
 floored file demands floors = floors_end (floors_verdict file demands floors) file demands floors
 
 -- ---- the call as C sees it (rule 20.8): 0 or a refusal's number, and in a further lent list how many floors were written; without a place for that it is refused with 1
 
-abbrev pub number_of_floored : Floored → ℕ
-number_of_floored (Floored.Written n) = 0
-number_of_floored (Floored.Refused r) = number_of r
+abbrev pub number_of_floored : Result ℕ Refusal → ℕ
+number_of_floored (Ok n) = 0
+number_of_floored (Err r) = number_of r
 
-abbrev pub answers_of_floored : Floored → List ℤ → List ℤ
-answers_of_floored (Floored.Written n) answers = over (pos n ∷ []) answers
-answers_of_floored (Floored.Refused r) answers = answers
+abbrev pub answers_of_floored : Result ℕ Refusal → List ℤ → List ℤ
+answers_of_floored (Ok n) answers = over (pos n ∷ []) answers
+answers_of_floored (Err r) answers = answers
 
 pub record PanelFloorsResult : Type 0 where
   pub number : ℕ

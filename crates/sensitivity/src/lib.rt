@@ -7,22 +7,16 @@ ghost use Rattle.sensitivity.specs.Floors.{floored};
 ghost use Rattle.sensitivity.specs.Clauses.{Shifted, Traced, GreatestDual, FloorsWritable, FloorsWritten};
 
 use bisection::Allocation;
-use evaluation::FirstBest;
+use evaluation::Sums;
 use rules::Refusal;
-
-// How many floors were written, or why none were.
-#[derive(Clone, Copy)]
-pub enum Floored {
-    Written(usize),
-    Refused(Refusal),
-}
+use site::Site;
 
 // By how much the net that covers demand `d` is above `target`.
 fn shift(target: u64, d: u32) -> i64
     requires { (target ≤ 32000000000000) × (d ≤ 320000) }
     ensures { result ≡ pos (100000000 * d) -ℤ pos target }
 {
-    (100000000 * d as u64) as i64 - target as i64
+    (100000000 * u64::from(d)) as i64 - target as i64
 }
 
 // The greatest of the dual values in a trace of `count` pairs, each carried by `shift` times its multiplier.
@@ -31,11 +25,9 @@ fn greatest_dual(trace: &[i64], count: usize, shift: i64) -> i64
     ensures { GreatestDual trace.now count shift result }
 {
     let mut greatest = trace[1] + trace[0] * shift;
-    let mut k = 1;
-    while k < count {
-        let i = 2 * k;
-        greatest = bisection::greater(trace[i + 1] + trace[i] * shift, greatest);
-        k += 1;
+    // (indices: what the search promises of a trace is of the whole lent list, which has room for 18 pairs)
+    for k in 1..count {
+        greatest = (trace[2 * k + 1] + trace[2 * k] * shift).max(greatest);
     }
     greatest
 }
@@ -45,56 +37,28 @@ fn write_floors(trace: &[i64], count: usize, target: u64, demands: &[u32], floor
     requires { Traced trace.now count × FloorsWritable demands.now floors.old target }
     ensures { FloorsWritten trace.now count target demands.now floors.old floors.new }
 {
-    let mut j = 0;
-    while j < demands.len() {
-        floors[j] = evaluation::floor_of(greatest_dual(trace, count, shift(target, demands[j])));
-        j += 1;
+    for (j, &d) in demands.iter().enumerate() {
+        floors[j] = evaluation::floor_of(greatest_dual(trace, count, shift(target, d)));
     }
 }
 
-// Writes a floor for each demand to the start of `floors`, or refuses and leaves them as they were.
-pub fn floors(file: &[u8], demands: &[u32], floors: &mut [i64]) -> Floored
+// Writes a floor for each demand to the start of `floors` and tells how many, or refuses and leaves them as they were.
+pub fn floors(file: &[u8], demands: &[u32], floors: &mut [i64]) -> Result<usize, Refusal>
     ensures { floored file.now demands.now floors.old ≡ record { answer = result; floors = floors.new } }
 {
     if demands::demands_invalid(demands) {
-        return Floored::Refused(Refusal::DemandsInvalid);
+        return Err(Refusal::DemandsInvalid);
     }
     if floors.len() < demands.len() {
-        return Floored::Refused(Refusal::FloorsTooShort);
+        return Err(Refusal::FloorsTooShort);
     }
-    let mut coefficients = [0u64; 160];
-    let mut ends = [0u16; 384];
-    let mut ranges = [0u8; 64];
+    let mut site = Site::empty();
     let mut outputs = [0u16; 32];
-    let first = evaluation::first_best(
-        file,
-        &mut coefficients,
-        &mut ends,
-        &mut ranges,
-        &mut outputs,
-    );
-    match first {
-        FirstBest::Refused(r) => Floored::Refused(r),
-        FirstBest::Found {
-            count,
-            target,
-            cost,
-            net,
-        } => {
-            let best = Allocation { outputs, cost, net };
-            let mut trace = [0i64; 36];
-            let found = bisection::search(
-                &coefficients,
-                &ends,
-                &ranges,
-                count,
-                target,
-                best,
-                &mut trace,
-            );
-            let evaluations = found.evaluations as usize;
-            write_floors(&trace, evaluations, target, demands, floors);
-            Floored::Written(demands.len())
-        }
-    }
+    let Sums { cost, net } = evaluation::first_best(file, &mut site, &mut outputs)?;
+    let best = Allocation { outputs, cost, net };
+    let mut trace = [0i64; 36];
+    let found = bisection::search(&site, best, &mut trace);
+    let evaluations = found.evaluations as usize;
+    write_floors(&trace, evaluations, site.target, demands, floors);
+    Ok(demands.len())
 }

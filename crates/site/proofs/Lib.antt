@@ -1,4 +1,3 @@
-pub mod CoefficientsWritten
 pub mod HoldsOffer
 pub mod UnitsWritten
 pub mod Decodes

@@ -1,6 +1,6 @@
 -- Units written one after the other, whichever they are: those passed are held, unless one of them has no permitted output. After the last the arrays hold every problem that offers these units; or none of these problems has a solution.
 use mathlib.Core.Path.{◌≡◌, refl, sym, ap, ◌∙◌}
-use mathlib.Core.Bool.{Bool, true, false, true≢false}
+use mathlib.Core.Bool.{Bool, true, false, ◌&&◌, true≢false, and-true, and-eq-true_iff}
 use mathlib.Core.List.{List, [], ◌∷◌, map}
 use Prim.Native.Nat.{ℕ, zero, suc, ◌+◌, ◌≤◌, ◌<◌}
 use native.Mathlib.Decide.{ℕ_discrete}
@@ -33,24 +33,21 @@ units-start = record { held = λ _ j h. absurd (omega arith); unserved = λ e. a
 
 module _ {unit : ℕ → Unit} {coefficients ends ranges : List ℕ} {permitted : Bool} {i : ℕ} (d : UnitsWritten unit coefficients ends ranges permitted i) where
   -- unit i is written
-  module _ {u : Unit} {some permitted' : Bool} {coefficients' ends' ranges' : List ℕ} (x : u ≡ unit i) (w : UnitWritten u i coefficients ends ranges coefficients' ends' ranges' some) where
-    pub units-more : some ≡ true → permitted' ≡ permitted → UnitsWritten unit coefficients' ends' ranges' permitted' (i + 1)
-    units-more s q =
+  module _ {u : Unit} {some : Bool} {coefficients' ends' ranges' : List ℕ} (x : u ≡ unit i) (w : UnitWritten u i coefficients ends ranges coefficients' ends' ranges' some) where
+    pub units-more : UnitsWritten unit coefficients' ends' ranges' (permitted && some) (i + 1)
+    units-more =
         record {
-          held = λ e j l. at (sym q ∙ e) j l (ℕ_discrete j i);
-          unserved = λ e. let k = d.unserved (sym q ∙ e) in record { which = k.which; below = omega (arith, k.below); none = k.none };
+          held = λ e j l. let (all, this) = (and-eq-true_iff permitted some).0 e in at all this j l (ℕ_discrete j i);
+          unserved = by some refl;
         }
       where
-        at : permitted ≡ true → (j : ℕ) → j < i + 1 → Dec (j ≡ i) → HoldsUnit coefficients' ends' ranges' j (unit j)
-        at e j l (yes k) = rw (k, ← x) (w.holds s)
-        at e j l (no k) = w.others j k (unit j) (d.held e j (omega arith))
+        at : permitted ≡ true → some ≡ true → (j : ℕ) → j < i + 1 → Dec (j ≡ i) → HoldsUnit coefficients' ends' ranges' j (unit j)
+        at all this j l (yes k) = rw (k, ← x) (w.holds this)
+        at all this j l (no k) = w.others j k (unit j) (d.held all j (omega arith))
 
-    pub units-unserved : some ≡ false → permitted' ≡ false → UnitsWritten unit coefficients' ends' ranges' permitted' (i + 1)
-    units-unserved s q =
-        record {
-          held = λ e. absurd (true≢false (sym e ∙ q));
-          unserved = λ _. record { which = i; below = omega arith; none = rw (← x) (w.none s) };
-        }
+        by : (t : Bool) → some ≡ t → (permitted && some) ≡ false → Unserved unit (i + 1)
+        by true s e = let k = d.unserved (rw (s, and-true permitted) at e) in record { which = k.which; below = omega (arith, k.below); none = k.none }
+        by false s e = record { which = i; below = omega arith; none = rw (← x) (w.none s) }
 
 -- ---- after the last
 

@@ -1,17 +1,15 @@
 -- What each function requires and leaves while a site is written: a unit in its places of the arrays, and the other units kept; and what decoding a file gives.
-use Rattle.std.specs.Prelude.{ℕ, ◌+◌, ◌*◌, ◌≤◌, ◌<◌, ◌≡◌, Bool, true, false, List, [], length, get_or}
+use Rattle.std.specs.Prelude.{ℕ, ◌+◌, ◌*◌, ◌≤◌, ◌<◌, ◌≡◌, Bool, true, false, List, [], length, get_or, Ok, Err}
 use Rattle.rules.specs.Unit.{Unit, with_previous}
 use Rattle.rules.specs.Layout.{edition, count, unit_at}
-use Rattle.rules.specs.Refusal.{head_verdict, contents_verdict, file_verdict}
+use Rattle.rules.specs.Refusal.{Verdict, head_verdict, contents_verdict, file_verdict}
 use Rattle.rules.specs.Regions.{regions}
 use Rattle.rules.specs.Problem.{Problem, offer, target, problem_in}
 use Rattle.rules.specs.Bisection.{solvable}
 use Rattle.rules.specs.Calls.{case_verdict}
-use Rattle.rules.specs.declared.Verdict.{Verdict}
 use Rattle.rules.specs.Sound.{Sound}
 use Rattle.regions.specs.Clauses.{KeptOutside}
 use Rattle.site.specs.Site.{first, last, Coefficients, HoldsUnit, regions_at, HoldsProblem, no_offer}
-use Rattle.site.specs.declared.Decoded.{Decoded}
 
 -- ---- one unit
 
@@ -40,8 +38,8 @@ pub record UnitWritten (u : Unit) (i : ℕ) (coefficients ends ranges coefficien
 -- a file of edition e and n units whose head and contents are accepted
 pub record BodiesNamed (file : List ℕ) (e n : ℕ) : Type 0 where
   pub edition : e ≡ edition file
-  pub head : head_verdict file ≡ Verdict.Accepted
-  pub contents : contents_verdict file ≡ Verdict.Accepted
+  pub head : head_verdict file ≡ Ok tt
+  pub contents : contents_verdict file ≡ Ok tt
   pub units : n ≡ count file
 
 -- ---- units decoded, whichever they are
@@ -62,18 +60,18 @@ unit_with file previous i = with_previous (unit_at file i) (get_or previous i 0)
 
 -- an accepted file of n units, and a previous output for each
 pub record PreviousGiven (file : List ℕ) (n : ℕ) (previous : List ℕ) : Type 0 where
-  pub accepted : file_verdict file ≡ Verdict.Accepted
+  pub accepted : file_verdict file ≡ Ok tt
   pub units : n ≡ count file
   pub small : (i : ℕ) → i < n → get_or previous i 0 ≤ 10000
 
 -- ---- what decoding a file gives: its problem in the arrays, each unit with its regions one by one, where every unit has a permitted output; or the refusal of the case
 
 pub record Site (file coefficients ends ranges : List ℕ) (n t : ℕ) : Type 0 where
-  pub accepted : file_verdict file ≡ Verdict.Accepted
+  pub accepted : file_verdict file ≡ Ok tt
   pub demanded : t ≡ target (problem_in file)
   pub holds : HoldsProblem coefficients ends ranges n (problem_in file)
   pub regions : (i : ℕ) → i < n → regions_at ends ranges i ≡ regions (unit_at file i)
 
-abbrev pub Decodes : List ℕ → List ℕ → List ℕ → List ℕ → Decoded → Type 0
-Decodes file coefficients ends ranges (Decoded.Site n t) = Site file coefficients ends ranges n t
-Decodes file coefficients ends ranges (Decoded.Refused r) = case_verdict file ≡ Verdict.Refused r
+abbrev pub Decodes : List ℕ → List ℕ → List ℕ → List ℕ → ℕ → ℕ → Verdict → Type 0
+Decodes file coefficients ends ranges n t (Ok _) = Site file coefficients ends ranges n t
+Decodes file coefficients ends ranges n t (Err r) = case_verdict file ≡ Err r

@@ -1,4 +1,4 @@
--- A decoded site is three arrays of plain numbers. Here stands which problem they hold: for each unit its coefficients and, as regions that ascend, the outputs that it offers.
+-- A decoded site has three arrays of plain numbers. Here stands which problem they hold: for each unit its coefficients and, as regions that ascend, the outputs that it offers.
 use Rattle.std.specs.Prelude.{ℕ, ◌+◌, ◌*◌, ◌-◌, ◌≤◌, ◌<◌, ◌≡◌, List, [], ◌↔◌, pos, length, get_or}
 use Rattle.rules.specs.Unit.{Unit, linear_factor}
 use Rattle.rules.specs.Regions.{Region, regions}

@@ -1,12 +1,12 @@
-// Checks and decodes a case file, each body read once. What writes an array takes it as a slice: so its length is known to the proof.
+// Checks and decodes a case file, each body read once. What writes one array takes it as a slice: so its length is known to the proof.
 ghost use Rattle.std.specs.Prelude.{◌≡◌, ◌+◌, ◌*◌, ◌≤◌, ◌<◌, length};
 ghost use Rattle.rules.specs.Unit.{linear_factor};
 ghost use Rattle.rules.specs.Sound.{Sound};
 ghost use Rattle.unit.specs.UnitHeld.{unit_held};
 ghost use Rattle.site.specs.Clauses.{UnitWritable, CoefficientsWritten, RangeWritten, UnitWritten, BodiesNamed, Decodes, unit_with, PreviousGiven, UnitsDecoded};
 
-use crate::Decoded;
-use rules::{Refusal, Verdict};
+use crate::Site;
+use rules::Refusal;
 use unit::Unit;
 
 // What a step of output nets before quadratic losses: 100,000,000 − b1.
@@ -23,12 +23,15 @@ fn write_coefficients(u: Unit, i: usize, coefficients: &mut [u64])
     ensures { CoefficientsWritten (unit_held u) i coefficients.old coefficients.new }
 {
     let Unit { c0, c1, c2, b, .. } = u;
+    let held = [
+        u64::from(c0),
+        u64::from(c1),
+        u64::from(c2),
+        u64::from(b),
+        linear_factor(u),
+    ];
     let k = 5 * i;
-    coefficients[k] = c0 as u64;
-    coefficients[k + 1] = c1 as u64;
-    coefficients[k + 2] = c2 as u64;
-    coefficients[k + 3] = b as u64;
-    coefficients[k + 4] = linear_factor(u);
+    coefficients[k..k + 5].copy_from_slice(&held);
 }
 
 // Writes the first and the last region of unit `i`.
@@ -36,111 +39,77 @@ fn write_range(i: usize, first: usize, last: usize, ranges: &mut [u8])
     requires { (2 * i + 2 ≤ length ranges.old) × (first < 256) × (last < 256) }
     ensures { RangeWritten i first last ranges.old ranges.new }
 {
-    ranges[2 * i] = first as u8;
-    ranges[2 * i + 1] = last as u8;
+    let k = 2 * i;
+    ranges[k..k + 2].copy_from_slice(&[first as u8, last as u8]);
 }
 
 // Writes unit `i` into the arrays; gives whether it has a permitted output.
-pub fn write_unit(
-    u: Unit,
-    i: usize,
-    coefficients: &mut [u64; 160],
-    ends: &mut [u16; 384],
-    ranges: &mut [u8; 64],
-) -> bool
+pub fn write_unit(u: Unit, i: usize, site: &mut Site) -> bool
     requires { UnitWritable (unit_held u) i }
-    ensures { UnitWritten (unit_held u) i coefficients.old ends.old ranges.old coefficients.new ends.new ranges.new result }
+    ensures { UnitWritten (unit_held u) i site.old.coefficients site.old.ends site.old.ranges site.new.coefficients site.new.ends site.new.ranges result }
 {
-    write_coefficients(u, i, coefficients);
+    write_coefficients(u, i, &mut site.coefficients);
     let start = 6 * i;
-    let next = regions::write_regions(u, start, ends);
+    let next = regions::write_regions(u, start, &mut site.ends);
     if next == start {
         return false;
     }
-    write_range(i, start, next - 1, ranges);
+    write_range(i, start, next - 1, &mut site.ranges);
     true
 }
 
 // Checks and decodes the bodies of a file whose head and contents are accepted.
-fn decode_bodies(
-    file: &[u8],
-    edition: u16,
-    n: usize,
-    coefficients: &mut [u64; 160],
-    ends: &mut [u16; 384],
-    ranges: &mut [u8; 64],
-) -> Decoded
+fn decode_bodies(file: &[u8], edition: u16, n: usize, site: &mut Site) -> Result<(), Refusal>
     requires { BodiesNamed file.now edition n }
-    ensures { Decodes file.now coefficients.new ends.new ranges.new result }
+    ensures { Decodes file.now site.new.coefficients site.new.ends site.new.ranges site.new.count site.new.target result }
 {
     let mut permitted = true;
-    let mut i = 0;
-    while i < n {
+    for i in 0..n {
         let body = casefile::body_of(file, i);
         if !casefile::body_fits(body, edition) {
-            return Decoded::Refused(Refusal::ZoneCountInvalid);
+            return Err(Refusal::ZoneCountInvalid);
         }
         let u = bodies::read_body(body, edition);
-        let verdict = unit::check_numbers(u);
-        if let Verdict::Refused(r) = verdict {
-            return Decoded::Refused(r);
-        }
-        if !write_unit(u, i, coefficients, ends, ranges) {
-            permitted = false;
-        }
-        i += 1;
+        unit::check_numbers(u)?;
+        permitted &= write_unit(u, i, site);
     }
     if !permitted {
-        return Decoded::Refused(Refusal::NoAllocation);
+        return Err(Refusal::NoAllocation);
     }
-    Decoded::Site {
-        count: n,
-        target: 100000000 * fields::read_u32(file, 4) as u64,
-    }
+    site.count = n;
+    site.target = 100000000 * fields::read::<u32>(file, 4) as u64;
+    Ok(())
 }
 
-// Decodes the `n` units of an accepted file with other previous outputs; gives whether each has a permitted output.
+// Decodes the `n` units of an accepted file with other previous outputs, for another demand; gives whether each has a permitted output.
 pub fn decode_with(
     file: &[u8],
     n: usize,
     previous: &[u16; 32],
-    coefficients: &mut [u64; 160],
-    ends: &mut [u16; 384],
-    ranges: &mut [u8; 64],
+    demand: u32,
+    site: &mut Site,
 ) -> bool
     requires { PreviousGiven file.now n previous.now }
-    ensures { UnitsDecoded (unit_with file.now previous.now) n coefficients.new ends.new ranges.new result }
+    ensures { UnitsDecoded (unit_with file.now previous.now) n site.new.coefficients site.new.ends site.new.ranges result × (site.new.count ≡ n) × (site.new.target ≡ 100000000 * demand) }
 {
     let mut all_permitted = true;
-    let mut i = 0;
-    while i < n {
+    for i in 0..n {
         let u = unit::with_previous(casefile::read_unit(file, i), previous[i]);
-        if !write_unit(u, i, coefficients, ends, ranges) {
-            all_permitted = false;
-        }
-        i += 1;
+        all_permitted &= write_unit(u, i, site);
     }
+    site.count = n;
+    site.target = 100000000 * demand as u64;
     all_permitted
 }
 
-// Checks and decodes a file. A unit without a permitted output is refused once every body is checked.
-pub fn decode(
-    file: &[u8],
-    coefficients: &mut [u64; 160],
-    ends: &mut [u16; 384],
-    ranges: &mut [u8; 64],
-) -> Decoded
-    ensures { Decodes file.now coefficients.new ends.new ranges.new result }
+// Checks and decodes a file. A unit without a permitted output is refused once every body is checked; what then stands in the site
+// means nothing.
+pub fn decode(file: &[u8], site: &mut Site) -> Result<(), Refusal>
+    ensures { Decodes file.now site.new.coefficients site.new.ends site.new.ranges site.new.count site.new.target result }
 {
-    let head = casefile::check_head(file);
-    if let Verdict::Refused(r) = head {
-        return Decoded::Refused(r);
-    }
-    let edition = fields::read_u16(file, 0);
-    let n = fields::read_u16(file, 2) as usize;
-    let contents = casefile::check_contents(file, n);
-    if let Verdict::Refused(r) = contents {
-        return Decoded::Refused(r);
-    }
-    decode_bodies(file, edition, n, coefficients, ends, ranges)
+    casefile::check_head(file)?;
+    let edition = fields::read::<u16>(file, 0);
+    let n = fields::read::<u16>(file, 2) as usize;
+    casefile::check_contents(file, n)?;
+    decode_bodies(file, edition, n, site)
 }

@@ -1,5 +1,5 @@
 -- What is asked and answered between the search and the reply, for every problem that the arrays hold.
-use Rattle.std.specs.Prelude.{ℕ, ◌≤◌, ◌≡◌, true, List, length}
+use Rattle.std.specs.Prelude.{ℕ, ◌≤◌, ◌≡◌, true, false, List, length, Option, None, Some}
 use Rattle.rules.specs.Problem.{Problem, target}
 use Rattle.rules.specs.Bisection.{Found, greatest_outputs, solvable, reply_of, solve}
 use Rattle.evaluation.specs.Clauses.{HoldsOutputs}
@@ -7,7 +7,6 @@ use Rattle.bisection.specs.declared.steps.Allocation as code-allocation
 use Rattle.bisection.specs.declared.steps.Found as code-found
 use Rattle.bisection.specs.Clauses.{sums_of, Holding, HoldsFound, Measurable}
 use Rattle.solving.specs.declared.Reply as code-reply
-use Rattle.solving.specs.declared.Solution as code-solution
 use Rattle.solving.specs.ReplyHeld.{reply_held}
 
 -- gap and surplus are not negative
@@ -22,7 +21,7 @@ pub record States (t : ℕ) (f : code-found.Found) (r : code-reply.Reply) : Type
 pub record Solves (coefficients ends ranges : List ℕ) (n t : ℕ) (first : code-allocation.Allocation) (r : code-reply.Reply) : Type 0 where
   pub held : (q : Problem) → Holding coefficients ends ranges n t q → HoldsOutputs q (greatest_outputs q) first.outputs (sums_of first) → reply_held n r ≡ solve q
 
--- whether a problem is solvable, and then the reply to it; of every problem that the arrays hold
-pub record HoldsSolution (coefficients ends ranges : List ℕ) (n t : ℕ) (r : code-solution.Solution) : Type 0 where
-  pub tells : (q : Problem) → Holding coefficients ends ranges n t q → r.solvable ≡ solvable q
-  pub reply : (q : Problem) → Holding coefficients ends ranges n t q → solvable q ≡ true → reply_held n r.reply ≡ solve q
+-- the reply to a problem, if it is solvable; of every problem that the arrays hold
+abbrev pub HoldsSolution : List ℕ → List ℕ → List ℕ → ℕ → ℕ → Option code-reply.Reply → Type 0
+HoldsSolution coefficients ends ranges n t None = (q : Problem) → Holding coefficients ends ranges n t q → solvable q ≡ false
+HoldsSolution coefficients ends ranges n t (Some reply) = (q : Problem) → Holding coefficients ends ranges n t q → (solvable q ≡ true) × (reply_held n reply ≡ solve q)

@@ -1,4 +1,5 @@
 -- What specs/Claims states, proved: where operations lead (`Course`), and what the search has there (`Progress`).
+use Rattle.std.specs.Prelude.{Ok, Err, Result}
 use Prim.Native.Nat.{ℕ, suc, ◌-◌, ◌*◌, min, ◌≤◌}
 use native.Mathlib.Decide.{dec_le}
 use native.Mathlib.Omega.{arith}
@@ -22,15 +23,13 @@ use Rattle.rules.specs.Calls.{case_verdict, dispatch_verdict, dispatch_ends, dis
 use Rattle.rules.specs.Promise.{reply_in}
 use Rattle.rules.specs.declared.Refusal.{Refusal}
 use Rattle.rules.specs.declared.Refusal.TheVariants.{CaseChanged}
-use Rattle.rules.specs.declared.Verdict.{Verdict}
-use Rattle.rules.specs.declared.Dispatched.{Dispatched}
+use Rattle.rules.specs.Refusal.{Verdict}
 use Rattle.rules.proofs.Verdicts.{either_way}
 use Rattle.rules.proofs.Demand3.{case-accepted, reply-fits}
 use Rattle.rules.proofs.Encoding.ReplyBytes.{reply-spelled}
 use Rattle.rules.proofs.Replied.{few-units}
 use Rattle.rules.proofs.Economics.Solution.{same-cost, same-net, same_target, permitted-given, covering-net}
-use Rattle.stepping.specs.declared.Started.{Started}
-use Rattle.stepping.specs.declared.Advanced.{Advanced}
+use Rattle.std.specs.Prelude.{Result, Ok, Err}
 use Rattle.stepping.specs.declared.State.{State}
 use Rattle.stepping.specs.declared.Asked.{Asked}
 use Rattle.stepping.specs.Runs.{Run, run_in, numbers_of, flag, is_finished, begun, held, same, run_from, evaluated, StartResult, start_ends, started, AdvanceResult, advance_ends, advanced_by, asked, Operation, start, advance, ask, Answer, starts, advances, asks, Lent, answer_to, lent_after, answers_of, performed}
@@ -43,12 +42,12 @@ use Rattle.stepping.proofs.Progress.{after_of_finished, after_of_not_finished, a
 
 -- ---- of any numbers
 
-by-begun : (t b : Bool) (v : Verdict) (numbers file : List ℕ) → (run_in numbers).finished ≡ 1 → (cond t (cond b (advance_ends v numbers file) (record { answer = Advanced.Refused CaseChanged; numbers = numbers })) (record { answer = Advanced.NotStarted; numbers = numbers })).numbers ≡ numbers
+by-begun : (t b : Bool) (v : Verdict) (numbers file : List ℕ) → (run_in numbers).finished ≡ 1 → (cond t (cond b (advance_ends v numbers file) (record { answer = Err CaseChanged; numbers = numbers })) (record { answer = Ok State.NotStarted; numbers = numbers })).numbers ≡ numbers
 unfolding advance_ends
 by-begun false b v numbers file e = refl
 by-begun true false v numbers file e = refl
-by-begun true true Verdict.Accepted numbers file e = rw (eq-eqb (run_in numbers).finished 1 e)
-by-begun true true (Verdict.Refused r) numbers file e = refl
+by-begun true true (Ok _) numbers file e = rw (eq-eqb (run_in numbers).finished 1 e)
+by-begun true true (Err r) numbers file e = refl
 
 pub finished-stays : FinishedStays
 unfolding advanced_by
@@ -71,59 +70,59 @@ performed-parts r (o ∷ os) more = performed-parts (lent_after r o) os more
 pub ask_changes_nothing : AskChangesNothing
 ask_changes_nothing r os more = (performed-parts r os (ask ∷ more) ∙ sym (performed-parts r os more), answers-parts r os more, answers-parts r os (ask ∷ more))
 
-start-by : (v : Verdict) (numbers bytes file : List ℕ) (r : Refusal) → let s = start_ends v numbers bytes file in s.answer ≡ Started.Refused r → (v ≡ Verdict.Refused r) × (s.numbers ≡ numbers) × (s.bytes ≡ bytes)
+start-by : (v : Verdict) (numbers bytes file : List ℕ) (r : Refusal) → let s = start_ends v numbers bytes file in s.answer ≡ Err r → (v ≡ Err r) × (s.numbers ≡ numbers) × (s.bytes ≡ bytes)
 unfolding start_ends
-start-by Verdict.Accepted numbers bytes file r e = absurd (let z : ◌≡◌ {A = ℕ} 0 1 = cc in omega arith)
-start-by (Verdict.Refused x) numbers bytes file r e = (let z : x ≡ r = cc in ap Verdict.Refused z, refl, refl)
+start-by (Ok _) numbers bytes file r e = absurd (let z : ◌≡◌ {A = ℕ} 0 1 = cc in omega arith)
+start-by (Err x) numbers bytes file r e = (let z : x ≡ r = cc in ap Err z, refl, refl)
 
 -- an advance of an accepted case tells where the run stands
-abbrev states : Advanced → ℕ
-states Advanced.Unfinished = 1
-states Advanced.Finished = 1
-states Advanced.NotStarted = 0
-states (Advanced.Refused r) = 0
+abbrev states : Result State Refusal → ℕ
+states (Ok State.Unfinished) = 1
+states (Ok State.Finished) = 1
+states (Ok State.NotStarted) = 0
+states (Err r) = 0
 
-tells : (b c : Bool) (before after : List ℕ) → let a : AdvanceResult = cond b (record { answer = Advanced.Finished; numbers = before }) (record { answer = cond c Advanced.Finished Advanced.Unfinished; numbers = after }) in states a.answer ≡ 1
+tells : (b c : Bool) (before after : List ℕ) → let a : AdvanceResult = cond b (record { answer = Ok State.Finished; numbers = before }) (record { answer = Ok (cond c State.Finished State.Unfinished); numbers = after }) in states a.answer ≡ 1
 tells true c before after = refl
 tells false true before after = refl
 tells false false before after = refl
 
-accepted-tells : (numbers file : List ℕ) → states (advance_ends Verdict.Accepted numbers file).answer ≡ 1
+accepted-tells : (numbers file : List ℕ) → states (advance_ends (Ok tt) numbers file).answer ≡ 1
 unfolding advance_ends
 accepted-tells numbers file = let next = evaluated (problem_in file) (run_in numbers) in tells (eqb (run_in numbers).finished 1) (eqb next.finished 1) numbers (numbers_of next)
 
 -- what is refused of the file, and what leaves the numbers
-ends-refused : (v : Verdict) (numbers file : List ℕ) (r : Refusal) → (advance_ends v numbers file).answer ≡ Advanced.Refused r → (v ≡ Verdict.Refused r) × ((advance_ends v numbers file).numbers ≡ numbers)
+ends-refused : (v : Verdict) (numbers file : List ℕ) (r : Refusal) → (advance_ends v numbers file).answer ≡ Err r → (v ≡ Err r) × ((advance_ends v numbers file).numbers ≡ numbers)
 unfolding advance_ends
-ends-refused Verdict.Accepted numbers file r e = absurd (omega (arith, accepted-tells numbers file, ap states e))
-ends-refused (Verdict.Refused x) numbers file r e = (let z : x ≡ r = cc in ap Verdict.Refused z, refl)
+ends-refused (Ok _) numbers file r e = absurd (omega (arith, accepted-tells numbers file, ap states e))
+ends-refused (Err x) numbers file r e = (let z : x ≡ r = cc in ap Err z, refl)
 
-ends-started : (v : Verdict) (numbers file : List ℕ) → (advance_ends v numbers file).answer ≡ Advanced.NotStarted → ⊥
+ends-started : (v : Verdict) (numbers file : List ℕ) → (advance_ends v numbers file).answer ≡ Ok State.NotStarted → ⊥
 unfolding advance_ends
-ends-started Verdict.Accepted numbers file e = omega (arith, accepted-tells numbers file, ap states e)
-ends-started (Verdict.Refused x) numbers file e = let z : ◌≡◌ {A = ℕ} 0 1 = cc in omega arith
+ends-started (Ok _) numbers file e = omega (arith, accepted-tells numbers file, ap states e)
+ends-started (Err x) numbers file e = let z : ◌≡◌ {A = ℕ} 0 1 = cc in omega arith
 
-advance-kept : (t b : Bool) (v : Verdict) (numbers file : List ℕ) (r : Refusal) → let a = cond t (cond b (advance_ends v numbers file) (record { answer = Advanced.Refused CaseChanged; numbers = numbers })) (record { answer = Advanced.NotStarted; numbers = numbers }) in a.answer ≡ Advanced.Refused r → a.numbers ≡ numbers
+advance-kept : (t b : Bool) (v : Verdict) (numbers file : List ℕ) (r : Refusal) → let a = cond t (cond b (advance_ends v numbers file) (record { answer = Err CaseChanged; numbers = numbers })) (record { answer = Ok State.NotStarted; numbers = numbers }) in a.answer ≡ Err r → a.numbers ≡ numbers
 advance-kept false b v numbers file r e = refl
 advance-kept true false v numbers file r e = refl
 advance-kept true true v numbers file r e = (ends-refused v numbers file r e).1
 
-unstarted-kept : (t b : Bool) (v : Verdict) (numbers file : List ℕ) → let a = cond t (cond b (advance_ends v numbers file) (record { answer = Advanced.Refused CaseChanged; numbers = numbers })) (record { answer = Advanced.NotStarted; numbers = numbers }) in a.answer ≡ Advanced.NotStarted → a.numbers ≡ numbers
+unstarted-kept : (t b : Bool) (v : Verdict) (numbers file : List ℕ) → let a = cond t (cond b (advance_ends v numbers file) (record { answer = Err CaseChanged; numbers = numbers })) (record { answer = Ok State.NotStarted; numbers = numbers }) in a.answer ≡ Ok State.NotStarted → a.numbers ≡ numbers
 unstarted-kept false b v numbers file e = refl
 unstarted-kept true false v numbers file e = refl
 unstarted-kept true true v numbers file e = absurd (ends-started v numbers file e)
 
-as_case : (v : Verdict) (numbers bytes file reply : List ℕ) (r : Refusal) → ((start_ends v numbers bytes file).answer ≡ Started.Refused r) ↔ ((dispatch_ends v file reply).answer ≡ Dispatched.Refused r)
+as_case : (v : Verdict) (numbers bytes file reply : List ℕ) (r : Refusal) → ((start_ends v numbers bytes file).answer ≡ Err r) ↔ ((dispatch_ends v file reply).answer ≡ Err r)
 unfolding start_ends dispatch_ends
-as_case Verdict.Accepted numbers bytes file reply r = (λ e. absurd (let z : ◌≡◌ {A = ℕ} 0 1 = cc in omega arith), λ e. absurd (let z : ◌≡◌ {A = ℕ} 0 1 = cc in omega arith))
-as_case (Verdict.Refused x) numbers bytes file reply r = (λ e. let z : x ≡ r = cc in rw z refl, λ e. let z : x ≡ r = cc in rw z refl)
+as_case (Ok _) numbers bytes file reply r = (λ e. absurd (let z : ◌≡◌ {A = ℕ} 0 1 = cc in omega arith), λ e. absurd (let z : ◌≡◌ {A = ℕ} 0 1 = cc in omega arith))
+as_case (Err x) numbers bytes file reply r = (λ e. let z : x ≡ r = cc in rw z refl, λ e. let z : x ≡ r = cc in rw z refl)
 
 -- with the bytes that are held, an advance is refused as a start is
 by-verdict : (numbers bytes file : List ℕ) → begun (run_in numbers) ≡ true → held numbers bytes ≡ file → advanced_by numbers bytes file ≡ advance_ends (case_verdict file) numbers file
 unfolding advanced_by
 by-verdict numbers bytes file b e = rw (b, equal-same (held numbers bytes) file e)
 
-as_start_lem : (numbers bytes file : List ℕ) → begun (run_in numbers) ≡ true → held numbers bytes ≡ file → (r : Refusal) → ((advanced_by numbers bytes file).answer ≡ Advanced.Refused r) ↔ ((started numbers bytes file).answer ≡ Started.Refused r)
+as_start_lem : (numbers bytes file : List ℕ) → begun (run_in numbers) ≡ true → held numbers bytes ≡ file → (r : Refusal) → ((advanced_by numbers bytes file).answer ≡ Err r) ↔ ((started numbers bytes file).answer ≡ Err r)
 unfolding started
 as_start_lem numbers bytes file b e r = (
   λ z. ap (λ (x : StartResult). x.answer) (start-refused numbers bytes file r (ends-refused (case_verdict file) numbers file r (sym (ap (λ (x : AdvanceResult). x.answer) (by-verdict numbers bytes file b e)) ∙ z)).0),
@@ -156,25 +155,25 @@ record Alike (r s : Lent) : Type 0 where
 abbrev StartsAlike : Verdict → List ℕ → Lent → Lent → Type 0
 StartsAlike v file r s = let x = start_ends v r.numbers r.bytes file in let y = start_ends v s.numbers s.bytes file in (x.answer ≡ y.answer) × Alike (record { numbers = x.numbers; bytes = x.bytes }) (record { numbers = y.numbers; bytes = y.bytes })
 
-accepted-alike : (v : Verdict) → v ≡ Verdict.Accepted → (file : List ℕ) (r s : Lent) → StartsAlike v file r s
+accepted-alike : (v : Verdict) → v ≡ Ok tt → (file : List ℕ) (r s : Lent) → StartsAlike v file r s
 unfolding start_ends run_from
-accepted-alike Verdict.Accepted e file r s = (refl, record { numbers = refl; file = take-append_seam file (drop (length file) r.bytes) ∙ sym (take-append_seam file (drop (length file) s.bytes)) })
-accepted-alike (Verdict.Refused x) e file r s = absurd (let z : ◌≡◌ {A = ℕ} 0 1 = cc in omega arith)
+accepted-alike (Ok _) e file r s = (refl, record { numbers = refl; file = take-append_seam file (drop (length file) r.bytes) ∙ sym (take-append_seam file (drop (length file) s.bytes)) })
+accepted-alike (Err x) e file r s = absurd (let z : ◌≡◌ {A = ℕ} 0 1 = cc in omega arith)
 
 started-alike : (v : Verdict) (file : List ℕ) (r s : Lent) → Alike r s → StartsAlike v file r s
 unfolding start_ends
-started-alike Verdict.Accepted file r s a = accepted-alike Verdict.Accepted refl file r s
-started-alike (Verdict.Refused x) file r s a = (refl, a)
+started-alike (Ok _) file r s a = accepted-alike (Ok tt) refl file r s
+started-alike (Err x) file r s a = (refl, a)
 
 advance-alike : (file : List ℕ) (r s : Lent) → Alike r s → advanced_by r.numbers r.bytes file ≡ advanced_by s.numbers s.bytes file
 unfolding advanced_by
-advance-alike file r s a = ap₂ (λ (n h : List ℕ). cond (begun (run_in n)) (cond (same h file) (advance_ends (case_verdict file) n file) (record { answer = Advanced.Refused CaseChanged; numbers = n })) (record { answer = Advanced.NotStarted; numbers = n })) a.numbers a.file
+advance-alike file r s a = ap₂ (λ (n h : List ℕ). cond (begun (run_in n)) (cond (same h file) (advance_ends (case_verdict file) n file) (record { answer = Err CaseChanged; numbers = n })) (record { answer = Ok State.NotStarted; numbers = n })) a.numbers a.file
 
 -- an advance leaves the length, and so what is held
 ends-length : (v : Verdict) (n file : List ℕ) → (run_in (advance_ends v n file).numbers).length ≡ (run_in n).length
 unfolding advance_ends evaluated
-ends-length Verdict.Accepted n file = either_way (λ (x : AdvanceResult). (run_in x.numbers).length ≡ (run_in n).length) (eqb (run_in n).finished 1) (λ _. refl) (λ _. refl)
-ends-length (Verdict.Refused r) n file = refl
+ends-length (Ok _) n file = either_way (λ (x : AdvanceResult). (run_in x.numbers).length ≡ (run_in n).length) (eqb (run_in n).finished 1) (λ _. refl) (λ _. refl)
+ends-length (Err r) n file = refl
 
 kept-length : (n bytes file : List ℕ) → (run_in (advanced_by n bytes file).numbers).length ≡ (run_in n).length
 unfolding advanced_by
@@ -203,12 +202,12 @@ start_forgets r s file a os =
     (rest.0, ap₂ (λ (x : Answer) (xs : List Answer). x ∷ xs) (ap starts one.0) rest.1)
 
 -- until a start is accepted
-kept_by : (v : Verdict) (r : Lent) (file : List ℕ) → (v ≡ Verdict.Accepted → ⊥) → let s = start_ends v r.numbers r.bytes file in record { numbers = s.numbers; bytes = s.bytes } ≡ r
+kept_by : (v : Verdict) (r : Lent) (file : List ℕ) → (v ≡ Ok tt → ⊥) → let s = start_ends v r.numbers r.bytes file in record { numbers = s.numbers; bytes = s.bytes } ≡ r
 unfolding start_ends
-kept_by Verdict.Accepted r file h = absurd (h refl)
-kept_by (Verdict.Refused x) r file h = refl
+kept_by (Ok _) r file h = absurd (h refl)
+kept_by (Err x) r file h = refl
 
-start-kept : (r : Lent) (file : List ℕ) → (case_verdict file ≡ Verdict.Accepted → ⊥) → lent_after r (start file) ≡ r
+start-kept : (r : Lent) (file : List ℕ) → (case_verdict file ≡ Ok tt → ⊥) → lent_after r (start file) ≡ r
 unfolding started
 start-kept r file h = kept_by (case_verdict file) r file h
 
@@ -223,7 +222,7 @@ not-started r n os z = (unstarted-on r n os z, λ file. ap (λ (x : AdvanceResul
 
 -- ---- k advances after the start of a file
 
-module _ (file : List ℕ) (a : case_verdict file ≡ Verdict.Accepted) where
+module _ (file : List ℕ) (a : case_verdict file ≡ Ok tt) where
   abbrev q : Problem
   q = problem_in file
 
@@ -301,23 +300,23 @@ module _ (file : List ℕ) (a : case_verdict file ≡ Verdict.Accepted) where
     abbrev numbers : List ℕ
     numbers = numbers_of (run_after file k)
 
-    told-states : (b : Bool) → states (cond b Advanced.Finished Advanced.Unfinished) ≡ 1
+    told-states : (b : Bool) → states (Ok (cond b State.Finished State.Unfinished)) ≡ 1
     told-states true = refl
     told-states false = refl
 
-    only : (t : Bool) → same (held numbers bytes) other ≡ t → (advanced_by numbers bytes other).answer ≡ Advanced.Refused x → (x ≡ CaseChanged) × (other ≡ file → ⊥)
+    only : (t : Bool) → same (held numbers bytes) other ≡ t → (advanced_by numbers bytes other).answer ≡ Err x → (x ≡ CaseChanged) × (other ≡ file → ⊥)
     only true e z =
         let e₁ : file ≡ other = sym h ∙ same-equal (held numbers bytes) other e in
-        let on : (advanced_by numbers bytes other).answer ≡ cond (eqb (run_after file (suc k)).finished 1) Advanced.Finished Advanced.Unfinished = ap (λ (o : List ℕ). (advanced_by numbers bytes o).answer) (sym e₁) ∙ ap (λ (r : AdvanceResult). r.answer) (advanced-on file a k bytes (equal-same (held numbers bytes) file h)) in
+        let on : (advanced_by numbers bytes other).answer ≡ Ok (cond (eqb (run_after file (suc k)).finished 1) State.Finished State.Unfinished) = ap (λ (o : List ℕ). (advanced_by numbers bytes o).answer) (sym e₁) ∙ ap (λ (r : AdvanceResult). r.answer) (advanced-on file a k bytes (equal-same (held numbers bytes) file h)) in
         absurd (omega (arith, told-states (eqb (run_after file (suc k)).finished 1), ap states (sym on ∙ z)))
     only false e z =
-        let c : Advanced.Refused CaseChanged ≡ Advanced.Refused x = sym (ap (λ (r : AdvanceResult). r.answer) (advance-changed numbers bytes other (begins file a k) e)) ∙ z in
+        let c : ◌≡◌ {A = Result State Refusal} (Err CaseChanged) (Err x) = sym (ap (λ (r : AdvanceResult). r.answer) (advance-changed numbers bytes other (begins file a k) e)) ∙ z in
         (let y : CaseChanged ≡ x = cc in sym y, λ w. true≢false (sym (equal-same (held numbers bytes) other (h ∙ sym w)) ∙ e))
 
-    refused_exactly : ((advanced_by numbers bytes other).answer ≡ Advanced.Refused x) ↔ ((x ≡ CaseChanged) × (other ≡ file → ⊥))
+    refused_exactly : ((advanced_by numbers bytes other).answer ≡ Err x) ↔ ((x ≡ CaseChanged) × (other ≡ file → ⊥))
     refused_exactly = (
       only (same (held numbers bytes) other) refl,
-      λ p. ap (λ (r : AdvanceResult). r.answer) (advance-changed numbers bytes other (begins file a k) (unequal_same (held numbers bytes) other (λ e. p.1 (sym e ∙ h)))) ∙ ap Advanced.Refused (sym p.0),
+      λ p. ap (λ (r : AdvanceResult). r.answer) (advance-changed numbers bytes other (begins file a k) (unequal_same (held numbers bytes) other (λ e. p.1 (sym e ∙ h)))) ∙ (λ i. Err (sym p.0 i)),
     )
 
   pub moment : (k : ℕ) (bytes : List ℕ) → held (numbers_of (run_after file k)) bytes ≡ file → Moment file k (record { numbers = numbers_of (run_after file k); bytes = bytes })
@@ -325,7 +324,7 @@ module _ (file : List ℕ) (a : case_verdict file ≡ Verdict.Accepted) where
       record {
         refused = λ other x. refused_exactly k bytes h other x;
         state = ap (λ (x : Asked). x.state) (shown k) ∙ ended k State.Finished State.Unfinished;
-        told = ap (λ (x : AdvanceResult). x.answer) (advanced-on file a k bytes (equal-same _ file h)) ∙ ended (suc k) Advanced.Finished Advanced.Unfinished;
+        told = ap (λ (x : AdvanceResult). x.answer) (advanced-on file a k bytes (equal-same _ file h)) ∙ (λ i. Ok (ended (suc k) State.Finished State.Unfinished i));
         evaluations = ap (λ (x : Asked). x.evaluations) (shown k) ∙ counted k;
         multipliers = λ h. finished-evaluated q k (after_of_finished q k h);
         count = ap (λ (x : Asked). x.count) (shown k) ∙ count-is file a;
@@ -339,7 +338,7 @@ module _ (file : List ℕ) (a : case_verdict file ≡ Verdict.Accepted) where
 pub each-moment : EachMoment
 each-moment bytes os file k e =
     let there = followed none tt (zeros bytes) (record { numbers = refl; file = refl }) os in
-    let known : case_verdict file ≡ Verdict.Accepted = subst Known e there.1 in
+    let known : case_verdict file ≡ Ok tt = subst Known e there.1 in
     let stands : Stands (since file k) (performed (zeros bytes) os) = subst (λ (c : Course). Stands c (performed (zeros bytes) os)) e there.0 in
     let r = performed (zeros bytes) os in
     let m = moment file known k r.bytes (ap (λ (n : List ℕ). held n r.bytes) (sym stands.numbers) ∙ stands.file) in
@@ -353,11 +352,11 @@ Improved before after = ((run_in after).cost ≤ (run_in before).cost) × ((run_
 improved_more : (x y z : List ℕ) → Improved x y → Improved y z → Improved x z
 improved_more x y z p r = (omega (arith, p.0, r.0), omega (arith, p.1, r.1))
 
-refused-turn : (v : Verdict) (f : List ℕ) (c : Course) → (v ≡ Verdict.Accepted → ⊥) → start_turns v f c ≡ c
-refused-turn Verdict.Accepted f c h = absurd (h refl)
-refused-turn (Verdict.Refused r) f c h = refl
+refused-turn : (v : Verdict) (f : List ℕ) (c : Course) → (v ≡ Ok tt → ⊥) → start_turns v f c ≡ c
+refused-turn (Ok _) f c h = absurd (h refl)
+refused-turn (Err r) f c h = refl
 
-advance-improves : (t : Bool) (file : List ℕ) (k : ℕ) → case_verdict file ≡ Verdict.Accepted → let c = cond t (since file (suc k)) (since file k) in Improved (numbers_at (since file k)) (numbers_at c) × Known c
+advance-improves : (t : Bool) (file : List ℕ) (k : ℕ) → case_verdict file ≡ Ok tt → let c = cond t (since file (suc k)) (since file k) in Improved (numbers_at (since file k)) (numbers_at c) × Known c
 advance-improves true file k h = ((after_of_cheaper (problem_in file) (proper file h) (case-accepted file h).1 k, so_far_rises (problem_in file) (λ m. floor m (problem_in file)) k), h)
 advance-improves false file k h = ((omega arith, omega arith), h)
 

@@ -2,11 +2,9 @@
 use Prim.Native.Nat.{ℕ, ◌+◌, ◌-◌, ◌≤◌, ◌<◌}
 use native.Mathlib.Numerals.{add-one}
 use native.Mathlib.Omega.{arith}
-use mathlib.Core.Path.{◌≡◌, refl, ap, sym, ◌∙◌}
-use native.Mathlib.Nat.{zero-add}
+use mathlib.Core.Path.{◌≡◌, ap, sym, ◌∙◌}
 use mathlib.Core.List.{List, ◌++◌, append-nil}
 use lib.ListN.{length, get_or, take, drop, set, drop_of_length-le, length-drop}
-use Rattle.rules.specs.Lists.{over}
 use lib.Seq.{paste, paste-zero, paste-suc, take_all}
 
 pub record Copying (d₀ : List ℕ) (at : ℕ) (s : List ℕ) (d : List ℕ) (i : ℕ) : Type 0 where
@@ -29,12 +27,6 @@ module _ (d₀ : List ℕ) (at : ℕ) (s : List ℕ) where
 
     pub copying_ends : length s ≤ i → length d₀ ≤ at + length s → d ≡ take at d₀ ++ s
     copying_ends h l = c.same ∙ rw (take_all i s h, drop_of_length-le d₀ {i = at + i} (omega (arith, c.within)), append-nil)
-
--- copied to the start
-pub copying_over : (d₀ s : List ℕ) {d : List ℕ} {i : ℕ} → Copying d₀ 0 s d i → length s ≤ i → d ≡ over s d₀
-copying_over d₀ s {i = i} c h =
-    let e : i ≡ length s = omega (arith, c.within) in
-    c.same ∙ rw (take_all i s h, e, zero-add) refl
 
 -- a part from k on is all that is there
 module _ {A : Type 0} (k : ℕ) (s : List A) where

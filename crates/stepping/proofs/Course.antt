@@ -1,4 +1,5 @@
 -- The run of an accepted file after k advances: its numbers fit together, one evaluation of it is the run after k + 1, and so a run is where its operations lead.
+use Rattle.std.specs.Prelude.{Ok, Err}
 use Prim.Native.Nat.{ℕ, zero, suc, ◌+◌, ◌*◌, ◌^◌, ◌≤◌}
 use native.Mathlib.Decide.{dec_le}
 use native.Mathlib.Nat.{pow-suc}
@@ -17,14 +18,13 @@ use Rattle.rules.specs.Lists.{all, over, Every, True}
 use Rattle.rules.specs.Layout.{case_of}
 use Rattle.rules.specs.Sound.{Sound}
 use Rattle.rules.specs.Offers.{Proper}
-use Rattle.rules.specs.Refusal.{file_verdict}
+use Rattle.rules.specs.Refusal.{file_verdict, Verdict}
 use Rattle.rules.specs.Problem.{Problem, total_cost, total_net, units_of, target, problem_in, problem_of, offer}
 use Rattle.rules.specs.Promise.{Permitted}
 use Rattle.rules.specs.Choice.{selected, floor}
 use Rattle.rules.specs.Bisection.{solvable, greatest_outputs}
 use Rattle.rules.specs.Stages.{Stage, at_zero, at_top, halving, finished, next_multiplier, Standing, evaluated_next}
 use Rattle.rules.specs.Calls.{case_verdict}
-use Rattle.rules.specs.declared.Verdict.{Verdict}
 use Rattle.rules.proofs.Verdicts.{and-true}
 use Rattle.rules.proofs.Lists.{all-every, every_more, length-each}
 use Rattle.rules.proofs.Demand3.{case-accepted, allocation-length, allocation-small}
@@ -34,7 +34,8 @@ use Rattle.rules.proofs.Economics.Stages.{advanced-next}
 use Rattle.rules.proofs.Economics.Solvable.{case-proper}
 use Rattle.rules.proofs.Economics.Solution.{same-cost, same-net, given-permitted}
 use Rattle.rules.proofs.Economics.Totals.{total_cost_range, total_net_range}
-use Rattle.stepping.specs.declared.Advanced.{Advanced}
+use Rattle.std.specs.Prelude.{Ok}
+use Rattle.stepping.specs.declared.State.{State}
 use Rattle.stepping.specs.Runs.{Run, stage_at, stage_of, width_at, flag, is_finished, low_of, stage_fits, outputs_fit, begun, run_from, evaluated, run_in, numbers_of, unstarted, state_told, held, same, StartResult, start_ends, started, AdvanceResult, advanced_by, Operation, start, advance, ask, Lent, lent_after, performed}
 use Rattle.stepping.specs.Claims.{greatest_so_far, after_of, run_at, run_after, Course, none, since, start_turns, turned, course_of, Stands}
 use Rattle.stepping.proofs.Widths.{width_power}
@@ -90,11 +91,11 @@ module _ (test : ℕ → Bool) where
 
 -- ---- of an accepted file
 
-module _ (file : List ℕ) (accepted : case_verdict file ≡ Verdict.Accepted) where
+module _ (file : List ℕ) (accepted : case_verdict file ≡ Ok tt) where
   abbrev q : Problem
   q = problem_in file
 
-  ok : (file_verdict file ≡ Verdict.Accepted) × (solvable q ≡ true)
+  ok : (file_verdict file ≡ Ok tt) × (solvable q ≡ true)
   ok = case-accepted file accepted
 
   pub sound : Every Sound (case_of file).units
@@ -200,7 +201,7 @@ finished_or_not finished = inl refl
 pub unfinished-flag : (st : Stage) → (st ≡ finished → ⊥) → is_finished st ≡ false
 unfinished-flag st u = ⊎_elim (λ e. absurd (u e)) (λ e. e) (finished_or_not st)
 
-module _ (file : List ℕ) (a : case_verdict file ≡ Verdict.Accepted) (k : ℕ) (bytes : List ℕ) (h : same (held (numbers_of (run_after file k)) bytes) file ≡ true) where
+module _ (file : List ℕ) (a : case_verdict file ≡ Ok tt) (k : ℕ) (bytes : List ℕ) (h : same (held (numbers_of (run_after file k)) bytes) file ≡ true) where
   abbrev run : Run
   run = run_after file k
 
@@ -211,7 +212,7 @@ module _ (file : List ℕ) (a : case_verdict file ≡ Verdict.Accepted) (k : ℕ
   by-stage (yes e) =
       let flagged : run.finished ≡ 1 = ap (λ (st : Stage). flag (is_finished st)) e in
       let unmoved : later ≡ run = stays file a k e in
-      let told : state_told later.finished ≡ Advanced.Finished = ap (λ (r : Run). state_told r.finished) unmoved ∙ ap state_told flagged in
+      let told : state_told later.finished ≡ Ok State.Finished = ap (λ (r : Run). state_told r.finished) unmoved ∙ ap state_told flagged in
       advance-finished (numbers_of run) bytes file (begins file a k) h a flagged ∙ (λ i. record { answer = sym told i; numbers = numbers_of (sym unmoved i) })
   by-stage (no u) =
       let flagged : run.finished ≡ 0 = ap flag (unfinished-flag (after_of (problem_in file) k).stage u) in
@@ -227,18 +228,18 @@ unstarted-not = refl
 -- what is known where operations lead
 abbrev pub Known : Course → Type 0
 Known none = True
-Known (since f k) = case_verdict f ≡ Verdict.Accepted
+Known (since f k) = case_verdict f ≡ Ok tt
 
 abbrev lent_by : StartResult → Lent
 lent_by s = record { numbers = s.numbers; bytes = s.bytes }
 
 started-on : (v : Verdict) (file : List ℕ) → case_verdict file ≡ v → (c : Course) → Known c → (r : Lent) → Stands c r → Stands (start_turns v file c) (lent_by (start_ends v r.numbers r.bytes file)) × Known (start_turns v file c)
 unfolding start_ends
-started-on Verdict.Accepted file e c h r s = (record { numbers = ap numbers_of (from_start file e); file = ap (λ (n : List ℕ). held n (over file r.bytes)) (ap numbers_of (from_start file e)) ∙ take-append_seam file (drop (length file) r.bytes) }, e)
-started-on (Verdict.Refused x) file e c h r s = (s, h)
+started-on (Ok _) file e c h r s = (record { numbers = ap numbers_of (from_start file e); file = ap (λ (n : List ℕ). held n (over file r.bytes)) (ap numbers_of (from_start file e)) ∙ take-append_seam file (drop (length file) r.bytes) }, e)
+started-on (Err x) file e c h r s = (s, h)
 
 -- by whether the bytes are those held
-advanced-led : (t : Bool) (f : List ℕ) (k : ℕ) → case_verdict f ≡ Verdict.Accepted → (r : Lent) → Stands (since f k) r → (file : List ℕ) → same f file ≡ t → let c = cond t (since f (suc k)) (since f k) in Stands c (record { numbers = (advanced_by r.numbers r.bytes file).numbers; bytes = r.bytes }) × Known c
+advanced-led : (t : Bool) (f : List ℕ) (k : ℕ) → case_verdict f ≡ Ok tt → (r : Lent) → Stands (since f k) r → (file : List ℕ) → same f file ≡ t → let c = cond t (since f (suc k)) (since f k) in Stands c (record { numbers = (advanced_by r.numbers r.bytes file).numbers; bytes = r.bytes }) × Known c
 advanced-led true f k h r s file e =
     let bytes = r.bytes in
     let run = numbers_of (run_after f k) in

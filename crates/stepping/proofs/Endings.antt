@@ -1,4 +1,5 @@
 -- Start, advance and ask by where they end: each way out of the code is one case of its definition.
+use Rattle.std.specs.Prelude.{Ok, Err}
 use Prim.Native.Nat.{ℕ, ◌-◌, ◌≤◌}
 use native.Mathlib.Omega.{arith}
 use mathlib.Core.Path.{◌≡◌, sym, ap, ◌∙◌}
@@ -13,14 +14,12 @@ use Rattle.rules.specs.Bisection.{greatest_outputs}
 use Rattle.rules.specs.Calls.{case_verdict}
 use Rattle.rules.specs.declared.Refusal.{Refusal}
 use Rattle.rules.specs.declared.Refusal.TheVariants.{CaseChanged}
-use Rattle.rules.specs.declared.Verdict.{Verdict}
 use Rattle.rules.proofs.Demand3.{case-accepted}
 use Rattle.rules.proofs.Economics.Solvable.{solvable-covers}
 use Rattle.evaluation.specs.Clauses.{First}
 use Rattle.bisection.proofs.Starting.{holding, greatest-held}
 use Rattle.stepping.specs.declared.numbers.Numbers.{Numbers}
-use Rattle.stepping.specs.declared.Started.{Started}
-use Rattle.stepping.specs.declared.Advanced.{Advanced}
+use Rattle.std.specs.Prelude.{Ok, Err}
 use Rattle.stepping.specs.declared.State.{State}
 use Rattle.stepping.specs.declared.Asked.{Asked}
 use Rattle.stepping.specs.Runs.{Run, run_in, numbers_of, begun, held, same, run_from, start_ends, started, evaluated, state_told, advance_ends, advanced_by, asked}
@@ -34,11 +33,11 @@ first-covers {file} f = omega (arith, solvable-covers (problem_in file) (case-ac
 module _ (numbers bytes file : List ℕ) where
   -- ---- start
 
-  pub start-refused : (r : Refusal) → case_verdict file ≡ Verdict.Refused r → started numbers bytes file ≡ record { answer = Started.Refused r; numbers = numbers; bytes = bytes }
+  pub start-refused : (r : Refusal) → case_verdict file ≡ Err r → started numbers bytes file ≡ record { answer = Err r; numbers = numbers; bytes = bytes }
   unfolding started start_ends
   start-refused r e = rw e
 
-  pub start-begun : {coefficients ends ranges outputs : List ℕ} {n t c w : ℕ} → First file coefficients ends ranges outputs n t c w → {first : List ℕ} → first ≡ over (take n outputs) (replicate 32 0) → {after : List ℕ} → after ≡ numbers_of (run_of (record { finished = 0; evaluations = 0; low = 0; cost = c; surplus = w - t; floor = 0; count = n; length = length file; outputs = first })) → {copied : List ℕ} → copied ≡ over file bytes → started numbers bytes file ≡ record { answer = Started.Begun; numbers = after; bytes = copied }
+  pub start-begun : {coefficients ends ranges outputs : List ℕ} {n t c w : ℕ} → First file coefficients ends ranges outputs n t c w → {first : List ℕ} → first ≡ over (take n outputs) (replicate 32 0) → {after : List ℕ} → after ≡ numbers_of (run_of (record { finished = 0; evaluations = 0; low = 0; cost = c; surplus = w - t; floor = 0; count = n; length = length file; outputs = first })) → {copied : List ℕ} → copied ≡ over file bytes → started numbers bytes file ≡ record { answer = Ok tt; numbers = after; bytes = copied }
   unfolding started start_ends run_from
   start-begun {outputs = outputs} {n} {t} f e o z =
       let h = holding f in
@@ -48,22 +47,22 @@ module _ (numbers bytes file : List ℕ) where
 
   -- ---- advance
 
-  pub advance-unstarted : begun (run_in numbers) ≡ false → advanced_by numbers bytes file ≡ record { answer = Advanced.NotStarted; numbers = numbers }
+  pub advance-unstarted : begun (run_in numbers) ≡ false → advanced_by numbers bytes file ≡ record { answer = Ok State.NotStarted; numbers = numbers }
   unfolding advanced_by
   advance-unstarted e = rw e
 
   -- other bytes than those held
-  pub advance-changed : begun (run_in numbers) ≡ true → same (held numbers bytes) file ≡ false → advanced_by numbers bytes file ≡ record { answer = Advanced.Refused CaseChanged; numbers = numbers }
+  pub advance-changed : begun (run_in numbers) ≡ true → same (held numbers bytes) file ≡ false → advanced_by numbers bytes file ≡ record { answer = Err CaseChanged; numbers = numbers }
   unfolding advanced_by
   advance-changed b e = rw (b, e)
 
   module _ (b : begun (run_in numbers) ≡ true) (h : same (held numbers bytes) file ≡ true) where
-    pub advance-refused : (r : Refusal) → case_verdict file ≡ Verdict.Refused r → advanced_by numbers bytes file ≡ record { answer = Advanced.Refused r; numbers = numbers }
+    pub advance-refused : (r : Refusal) → case_verdict file ≡ Err r → advanced_by numbers bytes file ≡ record { answer = Err r; numbers = numbers }
     unfolding advanced_by advance_ends
     advance-refused r e = rw (b, h, e)
 
-    module _ (a : case_verdict file ≡ Verdict.Accepted) where
-      pub advance-finished : (run_in numbers).finished ≡ 1 → advanced_by numbers bytes file ≡ record { answer = Advanced.Finished; numbers = numbers }
+    module _ (a : case_verdict file ≡ Ok tt) where
+      pub advance-finished : (run_in numbers).finished ≡ 1 → advanced_by numbers bytes file ≡ record { answer = Ok State.Finished; numbers = numbers }
       unfolding advanced_by advance_ends
       advance-finished e = rw (b, h, a, eq-eqb (run_in numbers).finished 1 e)
 
@@ -72,12 +71,6 @@ module _ (numbers bytes file : List ℕ) where
         pub advance-made : advanced_by numbers bytes file ≡ record { answer = state_told next.finished; numbers = after }
         unfolding advanced_by advance_ends
         advance-made = rw (b, h, a, ne_eqb (run_in numbers).finished 1 u, w, e)
-
-        pub advance-last : next.finished ≡ 1 → advanced_by numbers bytes file ≡ record { answer = Advanced.Finished; numbers = after }
-        advance-last f = advance-made ∙ rw (eq-eqb next.finished 1 f)
-
-        pub advance-more : (next.finished ≡ 1 → ⊥) → advanced_by numbers bytes file ≡ record { answer = Advanced.Unfinished; numbers = after }
-        advance-more f = advance-made ∙ rw (ne_eqb next.finished 1 f)
 
 -- ---- ask
 

@@ -1,14 +1,14 @@
 -- What is known of a run that counts as started: each number's range, and, if it is unfinished, that its numbers are those of its stage.
 use Prim.Native.Nat.{ℕ, zero, suc, ◌+◌, ◌-◌, ◌*◌, ◌^◌, ◌≤◌, ◌<◌}
 use native.Mathlib.Omega.{arith}
-use mathlib.Core.Path.{◌≡◌, refl}
-use mathlib.Core.Bool.{Bool, true, false, true≢false, ◌||◌}
+use mathlib.Core.Path.{◌≡◌, refl, sym, ap, ◌∙◌}
+use mathlib.Core.Bool.{Bool, true, false, true≢false, ◌&&◌, ◌||◌}
 use mathlib.Core.List.{List, [], ◌∷◌}
 use mathlib.Core.Logic.{◌⊎◌, inl, inr, ⊎_elim}
 use lib.Dec.{leb, ltb, eqb}
 use lib.ListN.{length, get_or}
 use lib.Pow.{pow_mono, pow_pos}
-use borrow.Author.Tests.{leb-true, ltb-true, eqb-true, eq-eqb, ne_eqb}
+use borrow.Author.Tests.{leb-true, ltb-true, eqb-true}
 use Rattle.rules.specs.Lists.{all}
 use Rattle.rules.proofs.Verdicts.{and-true}
 use Rattle.bisection.specs.Clauses.{At}
@@ -51,26 +51,19 @@ fitting r e =
       outputs = c.1;
     }
 
--- ---- and by which of its tests a run is refused
+-- ---- and by its tests one after the other, as they are asked
 
-module _ (r : Run) where
-  pub not-one : (r.started ≡ 1 → ⊥) → begun r ≡ false
-  unfolding begun
-  not-one h = rw (ne_eqb r.started 1 h)
+and_regrouped : (a b c d : Bool) → (((a && b) && c) && d) ≡ (a && (b && (c && d)))
+and_regrouped false b c d = refl
+and_regrouped true false c d = refl
+and_regrouped true true c d = refl
 
-  module _ (one : r.started ≡ 1) where
-    pub stage-unfit : stage_fits r.finished r.evaluations r.low ≡ false → begun r ≡ false
-    unfolding begun
-    stage-unfit e = rw (eq-eqb r.started 1 one, e)
-
-    module _ (stage : stage_fits r.finished r.evaluations r.low ≡ true) where
-      pub amounts-unfit : amounts_fit r.cost r.surplus r.floor r.count r.length ≡ false → begun r ≡ false
-      unfolding begun
-      amounts-unfit e = rw (eq-eqb r.started 1 one, stage, e)
-
-      pub outputs-decide : amounts_fit r.cost r.surplus r.floor r.count r.length ≡ true → begun r ≡ outputs_fit r.outputs
-      unfolding begun
-      outputs-decide e = rw (eq-eqb r.started 1 one, stage, e)
+pub begun-tested : (r : Run) {x y : Bool} → x ≡ (eqb r.started 1 && stage_fits r.finished r.evaluations r.low) → y ≡ (x && amounts_fit r.cost r.surplus r.floor r.count r.length) → begun r ≡ (y && outputs_fit r.outputs)
+unfolding begun
+begun-tested r {x} {y} h k =
+    let staged = stage_fits r.finished r.evaluations r.low in
+    let ranged = amounts_fit r.cost r.surplus r.floor r.count r.length in
+    sym (ap (λ (t : Bool). t && outputs_fit r.outputs) (k ∙ ap (λ (t : Bool). t && ranged) h) ∙ and_regrouped (eqb r.started 1) staged ranged (outputs_fit r.outputs))
 
 -- one element of which a test holds
 pub all-at : (test : ℕ → Bool) (s : List ℕ) (i : ℕ) → all test s ≡ true → i < length s → test (get_or s i 0) ≡ true

@@ -1,13 +1,13 @@
 -- Closed cases of runs (sections 22 and 23 of docs/SPECIFICATION.md): calls, what each tells, the cases and runs that rows are made of. `Watches`, `Sequences` and `Limits` have the rows.
-use Rattle.std.specs.Prelude.{ℕ, List, [], ◌∷◌, ◌++◌, map, replicate}
+use Rattle.std.specs.Prelude.{ℕ, List, [], ◌∷◌, ◌++◌, map, replicate, Ok, Err}
+use Rattle.std.specs.Prelude as prelude
 use Rattle.rules.specs.Lists.{over}
 use Rattle.rules.specs.Layout.{file_of}
 use Rattle.rules.specs.Refusal.{number_of}
 use Rattle.rules.specs.TableRows.{Row}
 use Rattle.rules.specs.Cases as cases
 use Rattle.rules.specs.CaseFiles.{u5, put, U, marked, costing}
-use Rattle.stepping.specs.declared.Started.{Started}
-use Rattle.stepping.specs.declared.Advanced.{Advanced}
+use Rattle.rules.specs.declared.Refusal.{Refusal}
 use Rattle.stepping.specs.declared.State.{State}
 use Rattle.stepping.specs.Runs.{stage_of, width_at, begun, run_from, start_ends, started, evaluated, advance_ends, advanced_by, asked, Operation, Answer, starts, advances, asks, Lent, answers_of, performed}
 
@@ -29,15 +29,15 @@ pub data Result : Type 0 where
   -- what each operation tells, and the run's numbers and bytes after the last
   leaves : List Told → List ℕ → List ℕ → Result
 
-abbrev pub of_started : Started → Told
-of_started Started.Begun = begins
-of_started (Started.Refused r) = refuses (number_of r)
+abbrev pub of_started : prelude.Result (Unit {0}) Refusal → Told
+of_started (Ok u) = begins
+of_started (Err r) = refuses (number_of r)
 
-abbrev pub of_advanced : Advanced → Told
-of_advanced Advanced.Unfinished = unfinished
-of_advanced Advanced.Finished = finished
-of_advanced Advanced.NotStarted = not_started
-of_advanced (Advanced.Refused r) = refuses (number_of r)
+abbrev pub of_advanced : prelude.Result State Refusal → Told
+of_advanced (Ok State.Unfinished) = unfinished
+of_advanced (Ok State.Finished) = finished
+of_advanced (Ok State.NotStarted) = not_started
+of_advanced (Err r) = refuses (number_of r)
 
 abbrev pub told : Answer → Told
 told (starts s) = of_started s

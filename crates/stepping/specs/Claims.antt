@@ -1,5 +1,5 @@
 -- Rules 22.4, 22.7 to 22.11, 23.2 and 23.3 of docs/SPECIFICATION.md: what holds of every list of starts, advances and asks on one run, as statements. (They are proved in proofs/Claims.)
-use Rattle.std.specs.Prelude.{ℕ, suc, ◌+◌, ◌*◌, ◌-◌, max, min, ◌≤◌, true, false, cond, List, [], ◌∷◌, ◌++◌, ◌≡◌, ◌↔◌, leb, ℤ, pos, length, take, replicate, ◌≤ℤ◌}
+use Rattle.std.specs.Prelude.{ℕ, suc, ◌+◌, ◌*◌, ◌-◌, max, min, ◌≤◌, true, false, cond, List, [], ◌∷◌, ◌++◌, ◌≡◌, ◌↔◌, leb, ℤ, pos, length, take, replicate, ◌≤ℤ◌, Ok, Err}
 use Rattle.rules.specs.Lists.{over, True}
 use Rattle.rules.specs.Numbers.{natural}
 use Rattle.rules.specs.Layout.{Case, case_of}
@@ -11,10 +11,7 @@ use Rattle.rules.specs.Calls.{case_verdict, dispatched}
 use Rattle.rules.specs.Promise.{Permitted, Covering, cost_less_gap, reply_in}
 use Rattle.rules.specs.declared.Refusal.{Refusal}
 use Rattle.rules.specs.declared.Refusal.TheVariants.{CaseChanged}
-use Rattle.rules.specs.declared.Verdict.{Verdict}
-use Rattle.rules.specs.declared.Dispatched.{Dispatched}
-use Rattle.stepping.specs.declared.Started.{Started}
-use Rattle.stepping.specs.declared.Advanced.{Advanced}
+use Rattle.rules.specs.Refusal.{Verdict}
 use Rattle.stepping.specs.declared.State.{State}
 use Rattle.stepping.specs.declared.Asked.{Asked}
 use Rattle.stepping.specs.Runs.{Run, run_in, numbers_of, unstarted, flag, is_finished, low_of, begun, held, same, started, advanced_by, asked, Operation, start, advance, ask, Answer, starts, advances, asks, Lent, answers_of, performed}
@@ -55,8 +52,8 @@ pub data Course : Type 0 where
   since : List ℕ → ℕ → Course
 
 abbrev pub start_turns : Verdict → List ℕ → Course → Course
-start_turns Verdict.Accepted file c = since file 0
-start_turns (Verdict.Refused r) file c = c
+start_turns (Ok _) file c = since file 0
+start_turns (Err r) file c = c
 
 -- (an advance that is refused does not count)
 abbrev pub turned : Course → Operation → Course
@@ -72,7 +69,7 @@ course_of c (o ∷ os) = course_of (turned c o) os
 -- no start among them is accepted
 abbrev pub StartsRefused : List Operation → Type 0
 StartsRefused [] = True
-StartsRefused (start file ∷ os) = (case_verdict file ≡ Verdict.Accepted → ⊥) × StartsRefused os
+StartsRefused (start file ∷ os) = (case_verdict file ≡ Ok tt → ⊥) × StartsRefused os
 StartsRefused (advance file ∷ os) = StartsRefused os
 StartsRefused (ask ∷ os) = StartsRefused os
 
@@ -101,7 +98,7 @@ Follows = (bytes : List ℕ) (os : List Operation) → Stands (course_of none os
 abbrev pub StartForgets : Type 0
 StartForgets =
     (r s : Lent) (file : List ℕ)
-    → case_verdict file ≡ Verdict.Accepted
+    → case_verdict file ≡ Ok tt
     → (os : List Operation)
     → ((performed r (start file ∷ os)).numbers ≡ (performed s (start file ∷ os)).numbers) × (answers_of r (start file ∷ os) ≡ answers_of s (start file ∷ os))
 
@@ -113,7 +110,7 @@ NotStarted =
     → (os : List Operation)
     → StartsRefused os
     → (performed r os ≡ r)
-    × ((file : List ℕ) → (advanced_by r.numbers r.bytes file).answer ≡ Advanced.NotStarted)
+    × ((file : List ℕ) → (advanced_by r.numbers r.bytes file).answer ≡ Ok State.NotStarted)
     × ((asked r.numbers).state ≡ State.NotStarted)
 
 -- ---- what holds k advances after the start of a file
@@ -137,9 +134,9 @@ pub record Best (c : Case) (r : Reply) : Type 0 where
 pub record Moment (file : List ℕ) (k : ℕ) (r : Lent) : Type 0 where
   -- (rule 22.8) it is finished exactly from dispatch's number of evaluations on, and ask and the next advance say so
   pub state : (asked r.numbers).state ≡ cond (leb (evaluations_of file) k) State.Finished State.Unfinished
-  pub told : (advanced_by r.numbers r.bytes file).answer ≡ cond (leb (evaluations_of file) (suc k)) Advanced.Finished Advanced.Unfinished
+  pub told : (advanced_by r.numbers r.bytes file).answer ≡ Ok (cond (leb (evaluations_of file) (suc k)) State.Finished State.Unfinished)
   -- (rule 23.3) it is refused exactly where the bytes differ, and then with 24
-  pub refused : (other : List ℕ) (x : Refusal) → ((advanced_by r.numbers r.bytes other).answer ≡ Advanced.Refused x) ↔ ((x ≡ CaseChanged) × (other ≡ file → ⊥))
+  pub refused : (other : List ℕ) (x : Refusal) → ((advanced_by r.numbers r.bytes other).answer ≡ Err x) ↔ ((x ≡ CaseChanged) × (other ≡ file → ⊥))
   pub evaluations : (asked r.numbers).evaluations ≡ min k (evaluations_of file)
   pub multipliers : evaluations_of file ≤ k → (after_of (problem_in file) k).evaluated ≡ (found (problem_in file)).evaluated
   pub count : (asked r.numbers).count ≡ length (case_of file).units
@@ -196,12 +193,12 @@ AskChangesNothing =
 
 -- (rules 22.11, 23.2) what is refused, or not started, leaves everything as it was. A start is refused exactly as dispatch refuses. An advance of a started run is refused with 24 where the bytes differ, and else as a start
 pub record RefusalsKeep (numbers bytes file : List ℕ) : Type 0 where
-  pub start : (r : Refusal) → (started numbers bytes file).answer ≡ Started.Refused r → ((started numbers bytes file).numbers ≡ numbers) × ((started numbers bytes file).bytes ≡ bytes)
-  pub advance : (r : Refusal) → (advanced_by numbers bytes file).answer ≡ Advanced.Refused r → (advanced_by numbers bytes file).numbers ≡ numbers
-  pub unstarted : (advanced_by numbers bytes file).answer ≡ Advanced.NotStarted → (advanced_by numbers bytes file).numbers ≡ numbers
-  pub as_dispatch : (reply : List ℕ) → 92 ≤ length reply → (r : Refusal) → ((started numbers bytes file).answer ≡ Started.Refused r) ↔ ((dispatched file reply).answer ≡ Dispatched.Refused r)
-  pub changed : begun (run_in numbers) ≡ true → (held numbers bytes ≡ file → ⊥) → advanced_by numbers bytes file ≡ record { answer = Advanced.Refused CaseChanged; numbers = numbers }
-  pub as_start : begun (run_in numbers) ≡ true → held numbers bytes ≡ file → (r : Refusal) → ((advanced_by numbers bytes file).answer ≡ Advanced.Refused r) ↔ ((started numbers bytes file).answer ≡ Started.Refused r)
+  pub start : (r : Refusal) → (started numbers bytes file).answer ≡ Err r → ((started numbers bytes file).numbers ≡ numbers) × ((started numbers bytes file).bytes ≡ bytes)
+  pub advance : (r : Refusal) → (advanced_by numbers bytes file).answer ≡ Err r → (advanced_by numbers bytes file).numbers ≡ numbers
+  pub unstarted : (advanced_by numbers bytes file).answer ≡ Ok State.NotStarted → (advanced_by numbers bytes file).numbers ≡ numbers
+  pub as_dispatch : (reply : List ℕ) → 92 ≤ length reply → (r : Refusal) → ((started numbers bytes file).answer ≡ Err r) ↔ ((dispatched file reply).answer ≡ Err r)
+  pub changed : begun (run_in numbers) ≡ true → (held numbers bytes ≡ file → ⊥) → advanced_by numbers bytes file ≡ record { answer = Err CaseChanged; numbers = numbers }
+  pub as_start : begun (run_in numbers) ≡ true → held numbers bytes ≡ file → (r : Refusal) → ((advanced_by numbers bytes file).answer ≡ Err r) ↔ ((started numbers bytes file).answer ≡ Err r)
 
 abbrev pub Keeps : Type 0
 Keeps = (numbers bytes file : List ℕ) → RefusalsKeep numbers bytes file

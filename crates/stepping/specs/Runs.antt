@@ -1,6 +1,6 @@
 -- Sections 22 and 23 of docs/SPECIFICATION.md: a search that its caller advances, one evaluation at a time, and which holds its case. What start, advance and ask answer and leave, of every run and every file.
 -- A run is the state of such a search between two calls: 41 numbers and 1,608 bytes in two arrays that the caller lends.
-use Rattle.std.specs.Prelude.{ℕ, zero, suc, ◌+◌, ◌-◌, ◌*◌, ◌/◌, ◌^◌, max, Bool, true, false, cond, ◌&&◌, ◌||◌, List, [], ◌∷◌, leb, eqb, ltb, length, get_or, take, drop, replicate}
+use Rattle.std.specs.Prelude.{ℕ, zero, suc, ◌+◌, ◌-◌, ◌*◌, ◌/◌, ◌^◌, max, Bool, true, false, cond, ◌&&◌, ◌||◌, List, [], ◌∷◌, leb, eqb, ltb, length, get_or, take, drop, replicate, Result, Ok, Err}
 use Rattle.rules.specs.Lists.{all, over}
 use Rattle.rules.specs.Numbers.{natural}
 use Rattle.rules.specs.Problem.{Problem, total_cost, total_net, units_of, target, problem_in}
@@ -8,10 +8,9 @@ use Rattle.rules.specs.Choice.{selected, floor}
 use Rattle.rules.specs.Bisection.{greatest_outputs}
 use Rattle.rules.specs.Stages.{Stage, at_zero, at_top, halving, finished, next_multiplier, stage_after}
 use Rattle.rules.specs.Calls.{case_verdict}
+use Rattle.rules.specs.declared.Refusal.{Refusal}
 use Rattle.rules.specs.declared.Refusal.TheVariants.{CaseChanged}
-use Rattle.rules.specs.declared.Verdict.{Verdict}
-use Rattle.stepping.specs.declared.Started.{Started}
-use Rattle.stepping.specs.declared.Advanced.{Advanced}
+use Rattle.rules.specs.Refusal.{Verdict}
 use Rattle.stepping.specs.declared.State.{State}
 use Rattle.stepping.specs.declared.Asked.{Asked}
 
@@ -111,7 +110,7 @@ low_of finished = 0
 -- ---- (rule 22.5) start: the case is checked and step 1 made; the greatest outputs are the best so far, and the floor is 0
 
 pub record StartResult : Type 0 where
-  pub answer : Started
+  pub answer : Result (Unit {0}) Refusal
   pub numbers : List ℕ
   pub bytes : List ℕ
 
@@ -132,8 +131,8 @@ run_from q l =
     }
 
 unfoldable pub start_ends : Verdict → List ℕ → List ℕ → List ℕ → StartResult
-start_ends (Verdict.Refused r) numbers bytes file = record { answer = Started.Refused r; numbers = numbers; bytes = bytes }
-start_ends Verdict.Accepted numbers bytes file = record { answer = Started.Begun; numbers = numbers_of (run_from (problem_in file) (length file)); bytes = over file bytes }
+start_ends (Err r) numbers bytes file = record { answer = Err r; numbers = numbers; bytes = bytes }
+start_ends (Ok _) numbers bytes file = record { answer = Ok tt; numbers = numbers_of (run_from (problem_in file) (length file)); bytes = over file bytes }
 
 -- (rule 23.1) an accepted start takes the file's bytes
 unfoldable pub started : List ℕ → List ℕ → List ℕ → StartResult
@@ -162,24 +161,24 @@ evaluated q r =
     }
 
 pub record AdvanceResult : Type 0 where
-  pub answer : Advanced
+  pub answer : Result State Refusal
   pub numbers : List ℕ
 
-abbrev pub state_told : ℕ → Advanced
-state_told f = cond (eqb f 1) Advanced.Finished Advanced.Unfinished
+abbrev pub state_told : ℕ → Result State Refusal
+state_told f = Ok (cond (eqb f 1) State.Finished State.Unfinished)
 
 -- a finished run stays as it is; else the state after the evaluation is told
 unfoldable pub advance_ends : Verdict → List ℕ → List ℕ → AdvanceResult
-advance_ends (Verdict.Refused x) numbers file = record { answer = Advanced.Refused x; numbers = numbers }
-advance_ends Verdict.Accepted numbers file =
+advance_ends (Err x) numbers file = record { answer = Err x; numbers = numbers }
+advance_ends (Ok _) numbers file =
     let next = evaluated (problem_in file) (run_in numbers) in
-    cond (eqb (run_in numbers).finished 1) (record { answer = Advanced.Finished; numbers = numbers }) (record { answer = state_told next.finished; numbers = numbers_of next })
+    cond (eqb (run_in numbers).finished 1) (record { answer = Ok State.Finished; numbers = numbers }) (record { answer = state_told next.finished; numbers = numbers_of next })
 
 -- (rule 23.2) other bytes than those of the start are refused ahead of every other check
 unfoldable pub advanced_by : List ℕ → List ℕ → List ℕ → AdvanceResult
 advanced_by numbers bytes file =
-    let not_started : AdvanceResult = record { answer = Advanced.NotStarted; numbers = numbers } in
-    let changed : AdvanceResult = record { answer = Advanced.Refused CaseChanged; numbers = numbers } in
+    let not_started : AdvanceResult = record { answer = Ok State.NotStarted; numbers = numbers } in
+    let changed : AdvanceResult = record { answer = Err CaseChanged; numbers = numbers } in
     cond (begun (run_in numbers)) (cond (same (held numbers bytes) file) (advance_ends (case_verdict file) numbers file) changed) not_started
 
 -- ---- (rule 22.7) ask: the best so far, its cost and its distance above the greatest floor so far
@@ -199,8 +198,8 @@ pub data Operation : Type 0 where
   ask : Operation
 
 pub data Answer : Type 0 where
-  starts : Started → Answer
-  advances : Advanced → Answer
+  starts : Result (Unit {0}) Refusal → Answer
+  advances : Result State Refusal → Answer
   asks : Asked → Answer
 
 -- (an advance and an ask leave the bytes as they are)

@@ -13,25 +13,10 @@ ghost use Rattle.stepping.specs.Clauses.{Advanceable, Evaluates};
 mod numbers;
 
 use bisection::{Allocation, SearchState};
-use evaluation::FirstBest;
+use evaluation::Sums;
 use numbers::Numbers;
 use rules::Refusal;
-
-// Whether a run was started, or why not.
-#[derive(Clone, Copy)]
-pub enum Started {
-    Begun,
-    Refused(Refusal),
-}
-
-// Where a run stands after an advance, or why it was not made.
-#[derive(Clone, Copy)]
-pub enum Advanced {
-    Unfinished,
-    Finished,
-    NotStarted,
-    Refused(Refusal),
-}
+use site::Site;
 
 // Where a run stands.
 #[derive(Clone, Copy)]
@@ -54,60 +39,35 @@ pub struct Asked {
 }
 
 // Starts a run of the case: the greatest outputs are its best so far, and it holds the file; or refuses and leaves the run as it was.
-pub fn start(run: &mut [u64; 41], held: &mut [u8; 1608], file: &[u8]) -> Started
+pub fn start(run: &mut [u64; 41], held: &mut [u8; 1608], file: &[u8]) -> Result<(), Refusal>
     ensures { started run.old held.old file.now ≡ record { answer = result; numbers = run.new; bytes = held.new } }
 {
-    let mut coefficients = [0u64; 160];
-    let mut ends = [0u16; 384];
-    let mut ranges = [0u8; 64];
+    let mut site = Site::empty();
     let mut outputs = [0u16; 32];
-    let first = evaluation::first_best(
-        file,
-        &mut coefficients,
-        &mut ends,
-        &mut ranges,
-        &mut outputs,
-    );
-    match first {
-        FirstBest::Refused(r) => Started::Refused(r),
-        FirstBest::Found {
-            count,
-            target,
+    let Sums { cost, net } = evaluation::first_best(file, &mut site, &mut outputs)?;
+    let outputs = numbers::first_outputs(outputs, site.count);
+    numbers::write(
+        run,
+        Numbers {
+            finished: 0,
+            evaluations: 0,
+            low: 0,
             cost,
-            net,
-        } => {
-            let outputs = numbers::first_outputs(outputs, count);
-            numbers::write(
-                run,
-                Numbers {
-                    finished: 0,
-                    evaluations: 0,
-                    low: 0,
-                    cost,
-                    surplus: net - target,
-                    floor: 0,
-                    count: count as u64,
-                    length: file.len() as u64,
-                    outputs,
-                },
-            );
-            held[..file.len()].copy_from_slice(file);
-            Started::Begun
-        }
-    }
+            surplus: net - site.target,
+            floor: 0,
+            count: site.count as u64,
+            length: file.len() as u64,
+            outputs,
+        },
+    );
+    held[..file.len()].copy_from_slice(file);
+    Ok(())
 }
 
-// One evaluation more of an unfinished run, of the case whose arrays these are.
-fn evaluate_next(
-    before: Numbers,
-    coefficients: &[u64; 160],
-    ends: &[u16; 384],
-    ranges: &[u8; 64],
-    n: usize,
-    target: u64,
-) -> Numbers
-    requires { Advanceable before coefficients.now ends.now ranges.now n target }
-    ensures { Evaluates before coefficients.now ends.now ranges.now n target result }
+// One evaluation more of an unfinished run, of the case that the site holds.
+fn evaluate_next(before: Numbers, site: &Site) -> Numbers
+    requires { Advanceable before site.now.coefficients site.now.ends site.now.ranges site.now.count site.now.target }
+    ensures { Evaluates before site.now.coefficients site.now.ends site.now.ranges site.now.count site.now.target result }
 {
     let Numbers {
         evaluations,
@@ -122,7 +82,7 @@ fn evaluate_next(
     let best = Allocation {
         outputs,
         cost,
-        net: surplus + target,
+        net: surplus + site.target,
     };
     let start = SearchState {
         best,
@@ -140,16 +100,16 @@ fn evaluate_next(
         low,
         width,
         ..
-    } = bisection::search_from(coefficients, ends, ranges, n, target, start, &mut trace);
+    } = bisection::search_from(site, start, &mut trace);
     let Allocation { outputs, cost, net } = best;
     Numbers {
         finished: (width == 0) as u64,
         evaluations: evaluations as u64,
         low,
         cost,
-        surplus: net - target,
+        surplus: net - site.target,
         floor: floor as u64,
-        count: n as u64,
+        count: site.count as u64,
         length,
         outputs,
     }
@@ -164,52 +124,34 @@ fn same_bytes(held: &[u8], length: usize, file: &[u8]) -> bool
         return false;
     }
     let mut different: usize = 0;
-    let mut i = 0;
-    while i < length {
+    for i in 0..length {
+        // (counted, not left at the first: so it is compiled to vector code)
         different += (held[i] != file[i]) as usize;
-        i += 1;
     }
     different == 0
 }
 
 // Makes the next evaluation of a run and tells where the run then stands, if the file is the one that it holds; a run that is not
 // started, one that is finished and one whose case is refused stay as they were.
-pub fn advance(run: &mut [u64; 41], held: &[u8; 1608], file: &[u8]) -> Advanced
+pub fn advance(run: &mut [u64; 41], held: &[u8; 1608], file: &[u8]) -> Result<State, Refusal>
     ensures { advanced_by run.old held.now file.now ≡ record { answer = result; numbers = run.new } }
 {
     if !numbers::is_begun(run) {
-        return Advanced::NotStarted;
+        return Ok(State::NotStarted);
     }
     let before = numbers::read(run);
     if !same_bytes(held, before.length as usize, file) {
-        return Advanced::Refused(Refusal::CaseChanged);
+        return Err(Refusal::CaseChanged);
     }
-    let mut coefficients = [0u64; 160];
-    let mut ends = [0u16; 384];
-    let mut ranges = [0u8; 64];
+    let mut site = Site::empty();
     let mut outputs = [0u16; 32];
-    let first = evaluation::first_best(
-        file,
-        &mut coefficients,
-        &mut ends,
-        &mut ranges,
-        &mut outputs,
-    );
-    match first {
-        FirstBest::Refused(r) => Advanced::Refused(r),
-        FirstBest::Found { count, target, .. } => {
-            if before.finished == 1 {
-                return Advanced::Finished;
-            }
-            let after = evaluate_next(before, &coefficients, &ends, &ranges, count, target);
-            numbers::write(run, after);
-            if after.finished == 1 {
-                Advanced::Finished
-            } else {
-                Advanced::Unfinished
-            }
-        }
+    evaluation::first_best(file, &mut site, &mut outputs)?;
+    if before.finished == 1 {
+        return Ok(State::Finished);
     }
+    let after = evaluate_next(before, &site);
+    numbers::write(run, after);
+    Ok(state_of(after.finished))
 }
 
 // Where a started run stands.
@@ -221,13 +163,6 @@ fn state_of(finished: u64) -> State
     } else {
         State::Unfinished
     }
-}
-
-// How far a cost lies above a floor; 0 where it does not.
-fn gap_of(cost: u64, floor: u64) -> u64
-    ensures { result ≡ cost - floor }
-{
-    if floor <= cost { cost - floor } else { 0 }
 }
 
 // Tells what a run has so far.
@@ -260,7 +195,7 @@ pub fn ask(run: &[u64; 41]) -> Asked
         count: count as u16,
         evaluations: evaluations as u16,
         cost,
-        gap: gap_of(cost, floor),
+        gap: cost.saturating_sub(floor),
         surplus,
         outputs,
     }

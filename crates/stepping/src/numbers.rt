@@ -4,7 +4,7 @@ ghost use Rattle.rules.specs.Lists.{over};
 ghost use Rattle.stepping.specs.Runs.{run_in, numbers_of, width_at, begun, stage_fits, amounts_fit, outputs_fit};
 ghost use Rattle.stepping.specs.Clauses.{run_of};
 
-// The numbers of a started run.
+// The numbers of a started run. (`finished` is 1 or 0, as in the array that C lends, whose numbers these are.)
 #[derive(Clone, Copy)]
 pub struct Numbers {
     pub finished: u64,
@@ -30,61 +30,30 @@ pub fn width_at(evaluations: u64) -> u64
 fn stage_fits(finished: u64, evaluations: u64, low: u64) -> bool
     ensures { result ≡ stage_fits finished evaluations low }
 {
-    if evaluations > 18 {
-        return false;
-    }
-    if finished == 1 {
-        return true;
-    }
-    if finished != 0 {
-        return false;
-    }
-    if evaluations == 18 {
-        return false;
-    }
-    if low == 0 {
-        return true;
-    }
-    if low > 65536 {
-        return false;
-    }
-    low + 2 * width_at(evaluations) <= 65536
+    evaluations <= 18
+        && (finished == 1
+            || (finished == 0
+                && evaluations < 18
+                && (low == 0 || (low <= 65536 && low + 2 * width_at(evaluations) <= 65536))))
 }
 
 // Whether cost, surplus, floor, count and length are in range.
 fn amounts_fit(cost: u64, surplus: u64, floor: u64, count: u64, length: u64) -> bool
     ensures { result ≡ amounts_fit cost surplus floor count length }
 {
-    if cost > 35200000000000 {
-        return false;
-    }
-    if surplus > 35200000000000 {
-        return false;
-    }
-    if floor > 35200000000000 {
-        return false;
-    }
-    if count == 0 {
-        return false;
-    }
-    if count > 32 {
-        return false;
-    }
-    length <= 1608
+    cost <= 35200000000000
+        && surplus <= 35200000000000
+        && floor <= 35200000000000
+        && 0 < count
+        && count <= 32
+        && length <= 1608
 }
 
 // Whether each output is in range.
 fn outputs_fit(outputs: &[u64]) -> bool
     ensures { result ≡ outputs_fit outputs.now }
 {
-    let mut i = 0;
-    while i < outputs.len() {
-        if outputs[i] > 10000 {
-            return false;
-        }
-        i += 1;
-    }
-    true
+    outputs.iter().all(|p| *p <= 10000)
 }
 
 // Whether a run counts as started.
@@ -92,16 +61,10 @@ pub fn is_begun(run: &[u64]) -> bool
     requires { length run.now ≡ 41 }
     ensures { result ≡ begun (run_in run.now) }
 {
-    if run[0] != 1 {
-        return false;
-    }
-    if !stage_fits(run[1], run[2], run[3]) {
-        return false;
-    }
-    if !amounts_fit(run[4], run[5], run[6], run[7], run[8]) {
-        return false;
-    }
-    outputs_fit(&run[9..])
+    run[0] == 1
+        && stage_fits(run[1], run[2], run[3])
+        && amounts_fit(run[4], run[5], run[6], run[7], run[8])
+        && outputs_fit(&run[9..])
 }
 
 // A list of 32 outputs in range as an array.
@@ -110,10 +73,9 @@ fn outputs_in(list: &[u64]) -> [u16; 32]
     ensures { result ≡ list.now }
 {
     let mut outputs = [0u16; 32];
-    let mut i = 0;
-    while i < 32 {
+    // (indices: two lists of different widths)
+    for i in 0..32 {
         outputs[i] = list[i] as u16;
-        i += 1;
     }
     outputs
 }
@@ -124,11 +86,7 @@ pub fn first_outputs(outputs: [u16; 32], n: usize) -> [u16; 32]
     ensures { result ≡ over (take n outputs) (replicate 32 0) }
 {
     let mut first = [0u16; 32];
-    let mut i = 0;
-    while i < n {
-        first[i] = outputs[i];
-        i += 1;
-    }
+    first[..n].copy_from_slice(&outputs[..n]);
     first
 }
 
@@ -156,10 +114,9 @@ fn write_outputs(list: &mut [u64], outputs: [u16; 32])
     requires { length list.old ≡ 32 }
     ensures { list.new ≡ outputs }
 {
-    let mut i = 0;
-    while i < 32 {
+    // (indices: two lists of different widths)
+    for i in 0..32 {
         list[i] = outputs[i] as u64;
-        i += 1;
     }
 }
 
@@ -168,25 +125,16 @@ pub fn write(run: &mut [u64], n: Numbers)
     requires { length run.old ≡ 41 }
     ensures { run.new ≡ numbers_of (run_of n) }
 {
-    let Numbers {
-        finished,
-        evaluations,
-        low,
-        cost,
-        surplus,
-        floor,
-        count,
-        length,
-        outputs,
-    } = n;
-    run[0] = 1;
-    run[1] = finished;
-    run[2] = evaluations;
-    run[3] = low;
-    run[4] = cost;
-    run[5] = surplus;
-    run[6] = floor;
-    run[7] = count;
-    run[8] = length;
-    write_outputs(&mut run[9..], outputs);
+    run[..9].copy_from_slice(&[
+        1,
+        n.finished,
+        n.evaluations,
+        n.low,
+        n.cost,
+        n.surplus,
+        n.floor,
+        n.count,
+        n.length,
+    ]);
+    write_outputs(&mut run[9..], n.outputs);
 }

@@ -19,7 +19,7 @@ use Rattle.site.specs.Site.{no_offer, HoldsProblem}
 use Rattle.evaluation.specs.Clauses.{SiteHeld, Sized}
 use Rattle.evaluation.proofs.Offers.{offer-available}
 use Rattle.sums.specs.declared.Totals.{Totals}
-use Rattle.sums.specs.Sums.{cost_at, net_at, ties_at, HoldsTerm, HoldsSums, Terms, Sums, Exchangeable}
+use Rattle.sums.specs.Sums.{cost_at, net_at, ties_at, HoldsTerm, HoldsSums, Terms, Exchangeable}
 
 -- ---- a sum over a list
 
@@ -125,9 +125,6 @@ pub record Summing (m : ℕ) (coefficients ends ranges : List ℕ) (n c w t i : 
   pub held : (q : Problem) → HoldsProblem coefficients ends ranges n q → Left m q.offers c w t i
 
 module _ {m : ℕ} {coefficients ends ranges : List ℕ} {n : ℕ} where
-  pub summing_starts : Summing m coefficients ends ranges n 0 0 0 0
-  summing_starts = record { within = omega arith; sized = record { cost = omega arith; net = omega arith }; few = omega arith; held = λ q h. record { cost = omega arith; net = omega arith; ties = omega arith } }
-
   module _ {c w t i : ℕ} (s : Summing m coefficients ends ranges n c w t i) where
     module _ (g : SiteHeld coefficients ends ranges n) (l : i < n) {r : Totals} (p : Terms coefficients ends ranges i m r) where
       pub next-sized : TermSized r
@@ -150,16 +147,6 @@ module _ {m : ℕ} {coefficients ends ranges : List ℕ} {n : ℕ} where
                   ties = omega (arith, f.ties, k.ties, sum-from (ties_at m) q.offers i no_offer b);
                 };
           }
-
-    pub summing_ends : n ≤ i → Sums coefficients ends ranges n m (record { cost = c; net = w; ties = t })
-    summing_ends e q h =
-        let b : length q.offers ≤ i = omega (arith, h.count) in
-        let f = s.held q h in
-        record {
-          cost = omega (arith, f.cost, sum_from_end (cost_at m) q.offers i b);
-          net = omega (arith, f.net, sum_from_end (net_at m) q.offers i b);
-          ties = omega (arith, f.ties, sum_from_end (ties_at m) q.offers i b);
-        }
 
 -- ---- offer k exchanged for o
 

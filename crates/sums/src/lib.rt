@@ -2,12 +2,13 @@
 // So a site in which one unit's regions are changed has its sums without another look at the other units.
 #![tactic(auto)]
 
-ghost use Rattle.std.specs.Prelude.{cond, ◌≡◌, ◌+◌, ◌-◌};
+ghost use Rattle.std.specs.Prelude.{◌≡◌, ◌+◌, ◌-◌};
 ghost use Rattle.evaluation.specs.Clauses.{Evaluable};
 ghost use Rattle.sums.specs.Sums.{TermHeld, Terms, Sums, Exchangeable};
 
 use choice::choose;
 use curve::{cost_of, curve_of, net_of};
+use site::Site;
 
 // Cost and net together, and how many units have a lower output that ties with their choice.
 #[derive(Clone, Copy)]
@@ -17,56 +18,35 @@ pub struct Totals {
     pub ties: u64,
 }
 
-// 0 for a unit whose choice ties with no lower output, else 1.
-fn tie_count(alone: bool) -> u64
-    ensures { result ≡ cond alone 0 1 }
-{
-    if alone { 0 } else { 1 }
-}
-
 // Of unit `i` at multiplier `m`.
-pub fn term_at(
-    coefficients: &[u64; 160],
-    ends: &[u16; 384],
-    ranges: &[u8; 64],
-    i: usize,
-    m: u64,
-) -> Totals
-    requires { TermHeld coefficients.now ends.now ranges.now i m }
-    ensures { Terms coefficients.now ends.now ranges.now i m result }
+pub fn term_at(site: &Site, i: usize, m: u64) -> Totals
+    requires { TermHeld site.now.coefficients site.now.ends site.now.ranges i m }
+    ensures { Terms site.now.coefficients site.now.ends site.now.ranges i m result }
 {
-    let first = ranges[2 * i] as usize;
-    let last = ranges[2 * i + 1] as usize;
-    let c = choose(ends, first, last, curve_of(coefficients, i, m));
+    let first = site.ranges[2 * i] as usize;
+    let last = site.ranges[2 * i + 1] as usize;
+    let c = choose(&site.ends, first, last, curve_of(&site.coefficients, i, m));
     let p = c.greatest;
     Totals {
-        cost: cost_of(coefficients, i, p),
-        net: net_of(coefficients, i, p),
-        ties: tie_count(c.least == p),
+        cost: cost_of(&site.coefficients, i, p),
+        net: net_of(&site.coefficients, i, p),
+        ties: u64::from(c.least != p),
     }
 }
 
-// Of the first `n` units at multiplier `m`.
-pub fn sums_at(
-    coefficients: &[u64; 160],
-    ends: &[u16; 384],
-    ranges: &[u8; 64],
-    n: usize,
-    m: u64,
-) -> Totals
-    requires { Evaluable coefficients.now ends.now ranges.now n m }
-    ensures { Sums coefficients.now ends.now ranges.now n m result }
+// Of all units at multiplier `m`.
+pub fn sums_at(site: &Site, m: u64) -> Totals
+    requires { Evaluable site.now.coefficients site.now.ends site.now.ranges site.now.count m }
+    ensures { Sums site.now.coefficients site.now.ends site.now.ranges site.now.count m result }
 {
     let mut cost: u64 = 0;
     let mut net: u64 = 0;
     let mut ties: u64 = 0;
-    let mut i = 0;
-    while i < n {
-        let term = term_at(coefficients, ends, ranges, i, m);
+    for i in 0..site.count {
+        let term = term_at(site, i, m);
         cost += term.cost;
         net += term.net;
         ties += term.ties;
-        i += 1;
     }
     Totals { cost, net, ties }
 }

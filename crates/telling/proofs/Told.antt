@@ -1,27 +1,20 @@
 -- A cost row told to C: three numbers at the start of a lent list, and the call by its room.
 use Prim.Native.Nat.{ℕ, ◌≤◌, ◌<◌}
-use native.Mathlib.Omega.{arith}
-use mathlib.Core.List.{List, [], ◌∷◌}
+use mathlib.Core.List.{List}
 use mathlib.Core.Path.{◌≡◌, sym}
 use lib.IntN.{ℤ}
-use lib.ListN.{length, set}
+use lib.ListN.{length}
 use borrow.Author.Tests.{lt-ltb, le-ltb}
-use Rattle.rules.specs.Lists.{over}
 use Rattle.rules.specs.Refusal.{number_of}
 use Rattle.rules.specs.declared.Refusal.TheVariants.{BufferTooShort}
-use Rattle.rules.proofs.Encoding.Front.{front-none, front-set, front-over}
-use Rattle.gencost.specs.declared.Costs.{Costs}
-use Rattle.gencost.specs.Row.{gencost_read}
+use Rattle.gencost.specs.Row.{Answer, gencost_read}
 use Rattle.telling.specs.Told.{number_of_costs, answers_of_costs, panel_gencost}
-
-pub three_written : (xs : List ℤ) (a b c : ℤ) → 3 ≤ length xs → set (set (set xs 0 a) 1 b) 2 c ≡ over (a ∷ b ∷ c ∷ []) xs
-three_written xs a b c h = front-over (front-set (front-set (front-set (front-none xs) a (omega arith)) b (omega arith)) c (omega arith))
 
 module _ (row : List ℕ) (answers : List ℤ) where
   pub gencost_short : length answers < 3 → {n : ℕ} → n ≡ number_of BufferTooShort → panel_gencost row answers ≡ record { number = n; answers = answers }
   unfolding panel_gencost
   gencost_short h e = rw (lt-ltb (length answers) 3 h, e)
 
-  pub gencost_told : 3 ≤ length answers → {c : Costs} {n : ℕ} {after : List ℤ} → c ≡ gencost_read row → n ≡ number_of_costs c → after ≡ answers_of_costs c answers → panel_gencost row answers ≡ record { number = n; answers = after }
+  pub gencost_told : 3 ≤ length answers → {c : Answer} {n : ℕ} {after : List ℤ} → c ≡ gencost_read row → n ≡ number_of_costs c → after ≡ answers_of_costs c answers → panel_gencost row answers ≡ record { number = n; answers = after }
   unfolding panel_gencost
   gencost_told h {c} e f g = rw (le-ltb (length answers) 3 h, sym e, f, g)

@@ -1,19 +1,18 @@
 -- Rule 25.13 of docs/SPECIFICATION.md: a cost row in C. The number that the call returns, and what it puts into a lent list of signed numbers.
-use Rattle.std.specs.Prelude.{ℕ, cond, List, [], ◌∷◌, ltb, ℤ, pos, length}
+use Rattle.std.specs.Prelude.{ℕ, cond, List, [], ◌∷◌, ltb, ℤ, pos, length, Ok, Err}
 use Rattle.rules.specs.Lists.{over}
 use Rattle.rules.specs.Refusal.{number_of}
 use Rattle.rules.specs.declared.Refusal.TheVariants.{BufferTooShort}
-use Rattle.gencost.specs.declared.Costs.{Costs}
-use Rattle.gencost.specs.Row.{gencost_read}
+use Rattle.gencost.specs.Row.{Answer, gencost_read}
 
-abbrev pub number_of_costs : Costs → ℕ
-number_of_costs (Costs.Read c2 c1 c0) = 0
-number_of_costs (Costs.Refused r) = number_of r
+abbrev pub number_of_costs : Answer → ℕ
+number_of_costs (Ok costs) = 0
+number_of_costs (Err r) = number_of r
 
 -- c0, c1 and c2, as in a unit's row
-abbrev pub answers_of_costs : Costs → List ℤ → List ℤ
-answers_of_costs (Costs.Read c2 c1 c0) answers = over (pos c0 ∷ pos c1 ∷ pos c2 ∷ []) answers
-answers_of_costs (Costs.Refused r) answers = answers
+abbrev pub answers_of_costs : Answer → List ℤ → List ℤ
+answers_of_costs (Ok costs) answers = over (pos costs.c0 ∷ pos costs.c1 ∷ pos costs.c2 ∷ []) answers
+answers_of_costs (Err r) answers = answers
 
 pub record PanelGencostResult : Type 0 where
   pub number : ℕ

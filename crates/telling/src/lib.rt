@@ -5,18 +5,17 @@ ghost use Rattle.std.specs.Prelude.{◌≡◌, ◌≤◌, length};
 ghost use Rattle.telling.specs.Told.{number_of_costs, answers_of_costs};
 
 use gencost::Costs;
+use rules::Refusal;
 
 // Writes the coefficients, c0 first as in a row, and gives the number.
-pub fn tell_costs(costs: Costs, answers: &mut [i64]) -> u32
+pub fn tell_costs(costs: Result<Costs, Refusal>, answers: &mut [i64]) -> u32
     requires { 3 ≤ length answers.old }
     ensures { (result ≡ number_of_costs costs) × (answers.new ≡ answers_of_costs costs answers.old) }
 {
     match costs {
-        Costs::Refused(r) => refusal_number::number(r),
-        Costs::Read { c2, c1, c0 } => {
-            answers[0] = c0 as i64;
-            answers[1] = c1 as i64;
-            answers[2] = c2 as i64;
+        Err(r) => refusal_number::number(r),
+        Ok(Costs { c2, c1, c0 }) => {
+            answers[..3].copy_from_slice(&[i64::from(c0), i64::from(c1), i64::from(c2)]);
             0
         }
     }

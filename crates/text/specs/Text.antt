@@ -1,10 +1,9 @@
 -- Rules 15.2 to 15.4 of docs/SPECIFICATION.md: the text of an answer, in ASCII.
-use Rattle.std.specs.Prelude.{ℕ, zero, suc, ◌+◌, ◌-◌, ◌*◌, ◌/◌, ◌%◌, cond, List, [], ◌∷◌, ◌++◌, ltb, length, take, replicate}
+use Rattle.std.specs.Prelude.{ℕ, zero, suc, ◌+◌, ◌-◌, ◌*◌, ◌/◌, ◌%◌, cond, List, [], ◌∷◌, ◌++◌, ltb, length, take, replicate, Ok, Err, Result}
 use Rattle.fields.specs.Field.{field}
 use Rattle.rules.specs.Refusal.{number_of}
 use Rattle.rules.specs.Calls.{dispatched}
 use Rattle.rules.specs.declared.Refusal.{Refusal}
-use Rattle.rules.specs.declared.Dispatched.{Dispatched}
 
 -- ---- numbers (rule 15.4)
 
@@ -83,9 +82,9 @@ reply_text reply =
     ++ output_lines ((length reply - 28) / 2) reply
 
 -- the text of an answer, whose reply stands at the start of a buffer
-unfoldable pub text_of : Dispatched → List ℕ → List ℕ
-text_of (Dispatched.Replied n) buffer = reply_text (take n buffer)
-text_of (Dispatched.Refused r) buffer = refused_text r
+unfoldable pub text_of : Result ℕ Refusal → List ℕ → List ℕ
+text_of (Ok n) buffer = reply_text (take n buffer)
+text_of (Err r) buffer = refused_text r
 
 -- what the program writes for a file: it lends dispatch 92 zeros
 unfoldable pub printed : List ℕ → List ℕ

@@ -1,27 +1,34 @@
 -- `day::day`: what the call opens with (`Opens`) is what the slots ask, and what is made of them is the call by its definition.
-use Rattle.std.proofs.Common.{◌≡◌, length, arith, sym, subst}
-use Rattle.day.specs.declared.Opening.{Opening}
-use Rattle.day.specs.Day.{day_verdict}
-use Rattle.day.proofs.Opens.{Passes, passes, ready, is-day, is-small}
+use Rattle.std.proofs.Common.{arith, sym, ◌∙◌}
+use Rattle.std.proofs.lemmas.Result.{err_from_is_err_and}
+use lib.Seq.{length-take-le}
+use Rattle.day.proofs.Opens.{refused-day, units, enough, lent, ready, is-day}
 use Rattle.day.proofs.day.Goals as goal
 
-pub copy_back-requires : goal.copy_back-requires
-copy_back-requires c =
-    let a = c.args in
-    let v = day_verdict a.file.now a.demands.now (length a.trace.now) (length a.histories.now) in
-    let p = subst (λ (o : Opening). Passes a.file.now a.demands.now o.slots o.sets (length a.trace.now) (length a.histories.now)) (sym c.begin-b.ensures) (passes a.file.now a.demands.now (length a.trace.now) (length a.histories.now) v (λ i. v)) in
-    (p.few, p.enough)
+pub returns-in_err-n : goal.returns-in_err-n
+returns-in_err-n c =
+    let p = err_from_is_err_and c.from_residual.result c.from_residual.ensures.1 in
+    rw (p.1, p.2) (refused-day _ _ c.args.trace.now c.args.histories.now (sym c.begin.ensures ∙ c.in_err-n.was), omega arith)
 
-pub slots-total-requires : goal.slots-total-requires
-slots-total-requires c =
-    let a = c.args in
-    let same : length c.copy_back.new.histories ≡ length a.histories.now = omega arith in
-    ready a.file.now a.demands.now (length a.trace.now) a.histories.now c.copy_back.new.histories c.begin-b.result c.begin-b.ensures c.copy_back.ensures same
+pub slice_bounds-sets-end : goal.slice_bounds-sets-end
+slice_bounds-sets-end c = let few = enough _ _ c.args.trace.now c.args.histories.now (sym c.begin.ensures ∙ c.in_ok-n.was) in omega (arith, few.0, few.1)
+
+pub slice_bounds-sets-end-2 : goal.slice_bounds-sets-end-2
+slice_bounds-sets-end-2 c =
+    let few = enough _ _ c.args.trace.now c.args.histories.now (sym c.begin.ensures ∙ c.in_ok-n.was) in sym (length-take-le _ c.args.histories.now (omega (arith, few.0, few.1)))
+
+pub set_first-requires : goal.set_first-requires
+set_first-requires c =
+    let opened = sym c.begin.ensures ∙ c.in_ok-n.was in rw (lent _ _ c.args.trace.now c.args.histories.now opened) (units _ _ c.args.trace.now c.args.histories.now opened)
+
+pub slots-requires : goal.slots-requires
+slots-requires c =
+    let opened = sym c.begin.ensures ∙ c.in_ok-n.was in
+    ready _ _ c.args.trace.now c.args.histories.now opened (omega (arith, lent _ _ c.args.trace.now c.args.histories.now opened)) c.set_first.ensures
 
 pub returns : goal.returns
 returns c =
-    let a = c.args in
-    let t = c.slots-total in (
-      is-day a.file.now a.demands.now a.trace.now a.histories.now c.begin-b.result c.copy_back.new.histories t.new.histories t.new.trace t.result c.ended.result c.begin-b.ensures c.copy_back.ensures t.ensures.0 c.ended.ensures,
-      is-small c.ended.result c.begin-b.result.verdict t.result c.ended.ensures t.ensures.1,
+    let opened = sym c.begin.ensures ∙ c.in_ok-n.was in (
+      is-day _ _ c.args.trace.now c.args.histories.now opened c.set_first.ensures c.slots.ensures.0 (omega (arith, lent _ _ c.args.trace.now c.args.histories.now opened)),
+      c.slots.ensures.1,
     )

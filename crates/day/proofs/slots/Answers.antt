@@ -1,11 +1,6 @@
--- `day::slots`: what slot k asks holds after the slots before it (`Folding`).
-use Rattle.std.proofs.Common.{arith, ap, sym}
-use Rattle.day.specs.Clauses.{Turn}
-use Rattle.day.proofs.Folding.{turn-asks}
+-- `day::slots`: one slot more, and the end (`Folding`).
+use Rattle.day.proofs.Folding.{folded_more}
 use Rattle.day.proofs.slots.Goals as goal
 
-pub slot_on_histories-c-requires : goal.slot_on_histories-c-requires
-slot_on_histories-c-requires c =
-    let a = c.args in
-    let l = c.loop-k in
-    turn-asks a.file.now a.demands.now a.m a.n a.trace.now a.histories.now c.requires l.k l.trace l.histories (omega arith) (omega arith) (ap (λ (t : Turn). t.histories) (sym l.invariant.after))
+pub loop-k-preserved : goal.loop-k-preserved
+loop-k-preserved c = folded_more c.requires c.loop-k.invariant c.loop-k-test.true c.slot-total.ensures.0

@@ -6,9 +6,9 @@ use Rattle.judging.proofs.Outcomes.{measurable, accepted}
 use Rattle.judging.proofs.judge_outputs.Goals as goal
 
 pub distance-requires : goal.distance-requires
-distance-requires c = rw (to_z-of_z {w = w64} {z = c.search-found.result.floor} (search rules)) (measurable c.in-Permitted.ensures (omega arith) c.search-found.ensures c.requires.0)
+distance-requires c = rw (to_z-of_z {w = w64} {z = c.search-found.result.floor} (search rules)) (measurable c.in_ok-cost.ensures (omega arith) c.search-found.ensures c.requires.0)
 
-pub returns-else-net-target : goal.returns-else-net-target
-returns-else-net-target c =
-    accepted c.in-Permitted.ensures (omega arith) c.search-found.ensures
-    (c.distance.ensures ∙ ap (λ (z : ℤ). natural (pos c.in-Permitted.cost -ℤ z)) (to_z-of_z {w = w64} {z = c.search-found.result.floor} (search rules)))
+pub returns : goal.returns
+returns c =
+    accepted c.in_ok-cost.ensures (omega arith) c.search-found.ensures
+    (c.distance.ensures ∙ ap (λ (z : ℤ). natural (pos c.in_ok-cost.field-0.cost -ℤ z)) (to_z-of_z {w = w64} {z = c.search-found.result.floor} (search rules)))

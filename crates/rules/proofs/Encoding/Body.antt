@@ -1,4 +1,5 @@
 -- A unit and its body, of either edition: each is read back from the other, and the body of a sound unit is accepted. A body that is accepted spells a sound unit.
+use Rattle.std.specs.Prelude.{Ok}
 use Prim.Native.Nat.{ℕ, zero, suc, ◌+◌, ◌*◌, ◌^◌, ◌<◌, ◌≤◌}
 use native.Mathlib.Decide.{dec_lt}
 use native.Mathlib.Omega.{arith}
@@ -18,7 +19,6 @@ use Rattle.rules.specs.Lists.{each, sum, Every}
 use Rattle.rules.specs.Unit.{Unit}
 use Rattle.rules.specs.Layout.{edges_start, in_second, edge_of_body, unit_of_body, body_length, body_of_unit}
 use Rattle.rules.specs.Refusal.{legal_size, body_verdict}
-use Rattle.rules.specs.declared.Verdict.TheVariants.{Accepted}
 use Rattle.rules.proofs.Lists.{every-from, each_same, each_take, take-each}
 use Rattle.rules.proofs.Verdicts.{either_way, accepts}
 use Rattle.rules.specs.Sound.{Sound}
@@ -150,7 +150,7 @@ module _ (e : ℕ) (u : Unit) (p : Packable e u) where
         edges = edges-again i;
       }
 
-  pub body-accepted : body_verdict e (body_of_unit e u) ≡ Accepted
+  pub body-accepted : body_verdict e (body_of_unit e u) ≡ Ok tt
   unfolding body_verdict
   body-accepted =
       simp accepts ((rw unit_body_unit p.sound.zone_count, rw unit_body_unit length-body), rw unit_body_unit (sound-accepted u p.sound))
@@ -183,7 +183,7 @@ pub record SoundBody (e : ℕ) (s : List ℕ) : Type 0 where
   pub size : length s ≡ body_length e (unit_of_body e s).zone_count
   pub unit : Sound (unit_of_body e s)
 
-pub sound-body : (e : ℕ) (s : List ℕ) → body_verdict e s ≡ Accepted → SoundBody e s
+pub sound-body : (e : ℕ) (s : List ℕ) → body_verdict e s ≡ Ok tt → SoundBody e s
 unfolding body_verdict
 sound-body e s a =
     let ((zones, size), unit) = simp accepts at a in record { zones = zones; size = size; unit = sound (unit_of_body e s) unit }

@@ -1,4 +1,5 @@
 -- A case and its file, of either edition: each is read back from the other. A file that was written of sound units is accepted, and an accepted file is what its case would be written as.
+use Rattle.std.specs.Prelude.{Ok}
 use Prim.Native.Nat.{ℕ, zero, suc, ◌+◌, ◌*◌, ◌≤◌, ◌<◌}
 use native.Mathlib.Nat.{zero-add, add-zero, add_assoc}
 use native.Mathlib.Omega.{arith}
@@ -13,7 +14,6 @@ use Rattle.rules.specs.Unit.{Unit}
 use Rattle.rules.specs.Layout.{unit_of_body, body_length, body_of_unit, edition, count, demand, offset, size, body, unit_at, case_of, contents_from, bodies_of, bodies_length, file_in}
 use Rattle.rules.specs.Refusal.{start, file_verdict}
 use Rattle.rules.specs.Calls.{file_length}
-use Rattle.rules.specs.declared.Verdict.TheVariants.{Accepted}
 use Rattle.rules.proofs.Lists.{every-at, length-each, each_same, each_from, each_get_or}
 use Rattle.rules.proofs.Encoding.Pieces.{Piece, Fits, spell, pieces, read-piece, read_behind, spell-pieces}
 use Rattle.rules.proofs.Encoding.Body.{Packable, legal, edges-start, length-body, unit_body_unit, body-accepted}
@@ -178,7 +178,7 @@ module _ (e : ℕ) (first : 1 ≤ e) (last : e ≤ 2) (d : ℕ) (us : List Unit)
         bodies = λ i h. rw (edition-read, body-written v i (at i h)) (body-accepted e (get_or us i v) (every-at (Packable e) us i v every (at i h)));
       }
 
-  pub file-accepted : file_verdict file ≡ Accepted
+  pub file-accepted : file_verdict file ≡ Ok tt
   file-accepted = (sound-file file).1 written-sound
 
   pub case_file_case : case_of file ≡ record { demand = d; units = us }
@@ -247,5 +247,5 @@ module _ {file : List ℕ} (s : SoundFile file) (b : Bytes file) where
       ap (file_in ed (demand file)) units-from ∙ file-spelled ed (demand file) us ∙ ap₂ spell first behind
       ∙ spell-pieces file 0 (2 ∷ 2 ∷ 4 ∷ []) (omega (arith, s.head.long)) b
 
-pub file_case_file : (file : List ℕ) → Bytes file → file_verdict file ≡ Accepted → file_in (edition file) (case_of file).demand (case_of file).units ≡ file
+pub file_case_file : (file : List ℕ) → Bytes file → file_verdict file ≡ Ok tt → file_in (edition file) (case_of file).demand (case_of file).units ≡ file
 file_case_file file b e = sound_file_again ((sound-file file).0 e) b

@@ -1,4 +1,5 @@
 -- An accepted file is a sound one: `file_verdict file ≡ Accepted` as facts of its fields, both ways.
+use Rattle.std.specs.Prelude.{Ok}
 use Prim.Native.Nat.{ℕ, zero, suc, ◌+◌, ◌-◌, ◌*◌, ◌≤◌, ◌<◌}
 use native.Mathlib.Omega.{arith}
 use native.Mathlib.Nat.{le_refl, mul-le-mul}
@@ -12,7 +13,6 @@ use Rattle.fields.specs.Field.{Bytes}
 use Rattle.fields.proofs.Width.{bytes-part}
 use Rattle.rules.specs.Layout.{edges_start, body_length, body_of_unit, edition, count, demand, offset, size, body, unit_at, case_of}
 use Rattle.rules.specs.Refusal.{start, legal_size, entry_fits, edition_verdict, head_verdict, contents_verdict, body_verdict, file_verdict}
-use Rattle.rules.specs.declared.Verdict.TheVariants.{Accepted}
 use Rattle.rules.specs.Lists.{Every}
 use Rattle.rules.proofs.Lists.{every-each, all-each}
 use Rattle.rules.proofs.Verdicts.{in_order_each, accepts}
@@ -38,10 +38,10 @@ pub record SoundContents (file : List ℕ) : Type 0 where
 pub record SoundFile (file : List ℕ) : Type 0 where
   pub head : SoundHead file
   pub contents : SoundContents file
-  pub bodies : (i : ℕ) → i < count file → body_verdict (edition file) (body file i) ≡ Accepted
+  pub bodies : (i : ℕ) → i < count file → body_verdict (edition file) (body file i) ≡ Ok tt
 
 module _ (file : List ℕ) where
-  pub sound-head : (head_verdict file ≡ Accepted) ↔ SoundHead file
+  pub sound-head : (head_verdict file ≡ Ok tt) ↔ SoundHead file
   unfolding head_verdict edition_verdict
   sound-head = (
     λ e.
@@ -58,14 +58,14 @@ module _ (file : List ℕ) where
   )
 
   -- what unpacking asks besides
-  pub edition-one : (edition_verdict 1 file ≡ Accepted) ↔ ((8 ≤ length file) × (edition file ≡ 1))
+  pub edition-one : (edition_verdict 1 file ≡ Ok tt) ↔ ((8 ≤ length file) × (edition file ≡ 1))
   unfolding edition_verdict
   edition-one = (λ e. let (long, (first, last)) = simp accepts at e in (long, omega arith), λ s. simp accepts (s.0, (omega (arith, s.1), omega (arith, s.1))))
 
   entry-fits : (i : ℕ) → (entry_fits file i ≡ true) ↔ ((offset file i ≡ start file i) × (legal_size (edition file) (size file i) ≡ true))
   entry-fits i = (λ e. simp accepts at e, λ p. simp accepts p)
 
-  pub sound-contents : (contents_verdict file ≡ Accepted) ↔ SoundContents file
+  pub sound-contents : (contents_verdict file ≡ Ok tt) ↔ SoundContents file
   unfolding contents_verdict
   sound-contents = (
     λ e.
@@ -77,7 +77,7 @@ module _ (file : List ℕ) where
         simp accepts ((s.room, entries), s.ends),
   )
 
-  pub sound-file : (file_verdict file ≡ Accepted) ↔ SoundFile file
+  pub sound-file : (file_verdict file ≡ Ok tt) ↔ SoundFile file
   unfolding file_verdict
   sound-file =
       let bodies = in_order_each (count file) (λ i. body_verdict (edition file) (body file i)) in (
@@ -125,12 +125,12 @@ module _ {file : List ℕ} (s : SoundFile file) where
   body_at b i h = body_unit_body (edition file) (body file i) (sound-at i h) (bytes-part file (offset file i) (size file i) b)
 
 -- every unit of an accepted file is sound
-pub units-sound : (file : List ℕ) → file_verdict file ≡ Accepted → Every Sound (case_of file).units
+pub units-sound : (file : List ℕ) → file_verdict file ≡ Ok tt → Every Sound (case_of file).units
 unfolding case_of
 units-sound file e = every-each Sound (count file) (unit_at file) (unit_at_sound ((sound-file file).0 e))
 
 -- and one that packing can write
-pub units-packable : (file : List ℕ) → file_verdict file ≡ Accepted → Every (Packable (edition file)) (case_of file).units
+pub units-packable : (file : List ℕ) → file_verdict file ≡ Ok tt → Every (Packable (edition file)) (case_of file).units
 unfolding case_of
 units-packable file e = every-each (Packable (edition file)) (count file) (unit_at file) (unit_at_packable ((sound-file file).0 e))
 
@@ -145,7 +145,7 @@ module _ {file : List ℕ} (s : SoundFile file) where
   start-range zero h = omega arith
   start-range (suc i) h = omega (arith, start-range i (omega arith), start-next s.contents i (omega arith), size-range i (omega arith))
 
-pub accepted-length : (file : List ℕ) → file_verdict file ≡ Accepted → (38 ≤ length file) × (length file ≤ 1608)
+pub accepted-length : (file : List ℕ) → file_verdict file ≡ Ok tt → (38 ≤ length file) × (length file ≤ 1608)
 accepted-length file e =
     let s = (sound-file file).0 e in
     let r = start-range s (count file) (omega arith) in

@@ -1,4 +1,5 @@
 -- Packing and unpacking undo each other, as calls: what one wrote, handed to the other, gives back what the first was given.
+use Rattle.std.specs.Prelude.{Ok, Err}
 use Prim.Native.Nat.{ℕ, ◌*◌, ◌/◌, ◌≤◌}
 use native.Mathlib.Omega.{arith}
 use mathlib.Core.Path.{◌≡◌, refl, sym, ap, ap₂, ◌∙◌}
@@ -10,12 +11,9 @@ use Rattle.fields.specs.Field.{Bytes}
 use Rattle.rules.specs.Lists.{over, Every}
 use Rattle.rules.specs.Unit.{Unit, with_loss}
 use Rattle.rules.specs.Layout.{Case, edition, count, demand, unit_at, case_of, in_second, unit_in_row, units_of_rows, rows_of_units, file_in, file_of}
-use Rattle.rules.specs.Refusal.{in_order, unit_verdict, file_verdict}
+use Rattle.rules.specs.Refusal.{in_order, unit_verdict, file_verdict, Verdict}
 use Rattle.rules.specs.Calls.{file_length, PackResult, pack_verdict, pack_ends, packed_in, packed, packed2, UnpackResult, unpack_verdict, unpack_ends, unpacked}
 use Rattle.rules.specs.Undoing.{PackedFileIsAccepted, ReadingUndoesPacking2, UnpackingUndoesPacking, PackingUndoesUnpacking}
-use Rattle.rules.specs.declared.Verdict.{Verdict}
-use Rattle.rules.specs.declared.Verdict.TheVariants.{Accepted, Refused}
-use Rattle.rules.specs.declared.Packed.{Packed}
 use Rattle.rules.specs.declared.Unpacked.{Unpacked}
 use Rattle.rules.proofs.Lists.{every-both, every_more, every_map, length-each, each_take, map_each}
 use Rattle.rules.proofs.Verdicts.{in_order_accepted, accepts}
@@ -38,22 +36,22 @@ pub record SoundRows (e d : ℕ) (rows : List ℕ) (b1 : List ℤ) (buffer : Lis
   pub room : file_length e (units_of_rows rows b1) ≤ length buffer
 
 -- units that rows can hold: each verdict is Accepted exactly if each unit is sound
-each-accepted : (e : ℕ) (us : List Unit) → Every (InRow e) us → in_order (map unit_verdict us) ≡ Accepted → Every (Packable e) us
+each-accepted : (e : ℕ) (us : List Unit) → Every (InRow e) us → in_order (map unit_verdict us) ≡ Ok tt → Every (Packable e) us
 each-accepted e us held a =
-    every-both (λ u. unit_verdict u ≡ Accepted) (InRow e) (Packable e) (λ u v n. record { sound = sound u v; row = n }) us
-    ((every_map (λ v. v ≡ Accepted) unit_verdict us).0 ((in_order_accepted (map unit_verdict us)).0 a)) held
+    every-both (λ u. unit_verdict u ≡ Ok tt) (InRow e) (Packable e) (λ u v n. record { sound = sound u v; row = n }) us
+    ((every_map (λ v. v ≡ Ok tt) unit_verdict us).0 ((in_order_accepted (map unit_verdict us)).0 a)) held
 
-each-sound : (e : ℕ) (us : List Unit) → Every (Packable e) us → in_order (map unit_verdict us) ≡ Accepted
+each-sound : (e : ℕ) (us : List Unit) → Every (Packable e) us → in_order (map unit_verdict us) ≡ Ok tt
 each-sound e us p =
     (in_order_accepted (map unit_verdict us)).1
-    ((every_map (λ v. v ≡ Accepted) unit_verdict us).1 (every_more (Packable e) (λ u. unit_verdict u ≡ Accepted) (λ u q. sound-accepted u q.sound) us p))
+    ((every_map (λ v. v ≡ Ok tt) unit_verdict us).1 (every_more (Packable e) (λ u. unit_verdict u ≡ Ok tt) (λ u q. sound-accepted u q.sound) us p))
 
 module _ (e d : ℕ) (rows : List ℕ) (b1 : List ℤ) (buffer : List ℕ) where
   count-is : length (units_of_rows rows b1) ≡ length rows / 19
   unfolding units_of_rows
   count-is = length-each (length rows / 19) _
 
-  pub sound-rows : pack_verdict e d rows b1 buffer ≡ Accepted → SoundRows e d rows b1 buffer
+  pub sound-rows : pack_verdict e d rows b1 buffer ≡ Ok tt → SoundRows e d rows b1 buffer
   unfolding pack_verdict
   sound-rows a =
       let ((((given, some), whole), few), (demand, (units, room))) = simp accepts at a in
@@ -67,7 +65,7 @@ module _ (e d : ℕ) (rows : List ℕ) (b1 : List ℤ) (buffer : List ℕ) where
         room = room;
       }
 
-  pub sound_rows_accepted : SoundRows e d rows b1 buffer → pack_verdict e d rows b1 buffer ≡ Accepted
+  pub sound_rows_accepted : SoundRows e d rows b1 buffer → pack_verdict e d rows b1 buffer ≡ Ok tt
   unfolding pack_verdict
   sound_rows_accepted s =
       simp accepts (
@@ -77,28 +75,30 @@ module _ (e d : ℕ) (rows : List ℕ) (b1 : List ℤ) (buffer : List ℕ) where
 
 -- ---- what an answer tells
 
-pub pack-wrote : (v : Verdict) (e d : ℕ) (rows : List ℕ) (b1 : List ℤ) (buffer : List ℕ) (n : ℕ) → (pack_ends v e d rows b1 buffer).answer ≡ Packed.Written n → (v ≡ Accepted) × (length (file_in e d (units_of_rows rows b1)) ≡ n)
+pub pack-wrote : (v : Verdict) (e d : ℕ) (rows : List ℕ) (b1 : List ℤ) (buffer : List ℕ) (n : ℕ) → (pack_ends v e d rows b1 buffer).answer ≡ Ok n → (v ≡ Ok tt) × (length (file_in e d (units_of_rows rows b1)) ≡ n)
 unfolding pack_ends
-pack-wrote Accepted e d rows b1 buffer n a = (refl, cc)
-pack-wrote (Refused r) e d rows b1 buffer n a = absurd (let z : ◌≡◌ {A = ℕ} 0 1 = cc in omega arith)
+pack-wrote (Ok _) e d rows b1 buffer n a = (refl, cc)
+pack-wrote (Err r) e d rows b1 buffer n a = absurd (let z : ◌≡◌ {A = ℕ} 0 1 = cc in omega arith)
 
-unpack_read : (v : Verdict) (file rows : List ℕ) (d n : ℕ) → (unpack_ends v file rows).answer ≡ Unpacked.Read d n → (v ≡ Accepted) × ((case_of file).demand ≡ d) × (length (case_of file).units ≡ n)
+unpack_read : (v : Verdict) (file rows : List ℕ) (d n : ℕ) → (unpack_ends v file rows).answer ≡ Ok (record { demand = d; count = n }) → (v ≡ Ok tt) × ((case_of file).demand ≡ d) × (length (case_of file).units ≡ n)
 unfolding unpack_ends
-unpack_read Accepted file rows d n e = (refl, cc, cc)
-unpack_read (Refused r) file rows d n e = absurd (let z : ◌≡◌ {A = ℕ} 0 1 = cc in omega arith)
+unpack_read (Ok _) file rows d n e =
+    let same : ◌≡◌ {A = Unpacked} (record { demand = (case_of file).demand; count = length (case_of file).units }) (record { demand = d; count = n }) = cc in
+    (refl, ap (λ (u : Unpacked). u.demand) same, ap (λ (u : Unpacked). u.count) same)
+unpack_read (Err r) file rows d n e = absurd (let z : ◌≡◌ {A = ℕ} 0 1 = cc in omega arith)
 
 -- what packing and unpacking give, where they refuse nothing
 abbrev wrote : List ℕ → List ℕ → PackResult
-wrote file buffer = record { answer = Packed.Written (length file); file = over file buffer }
+wrote file buffer = record { answer = Ok (length file); file = over file buffer }
 
 abbrev read : Case → List ℕ → UnpackResult
-read c out = record { answer = Unpacked.Read c.demand (length c.units); rows = over (rows_of_units c.units) out }
+read c out = record { answer = Ok (record { demand = c.demand; count = length c.units }); rows = over (rows_of_units c.units) out }
 
-packed-is : (e d : ℕ) (rows : List ℕ) (b1 : List ℤ) (buffer : List ℕ) → pack_verdict e d rows b1 buffer ≡ Accepted → packed_in e d rows b1 buffer ≡ wrote (file_in e d (units_of_rows rows b1)) buffer
+packed-is : (e d : ℕ) (rows : List ℕ) (b1 : List ℤ) (buffer : List ℕ) → pack_verdict e d rows b1 buffer ≡ Ok tt → packed_in e d rows b1 buffer ≡ wrote (file_in e d (units_of_rows rows b1)) buffer
 unfolding packed_in pack_ends
 packed-is e d rows b1 buffer a = rw a
 
-unpacked-is : (file out : List ℕ) → unpack_verdict file out ≡ Accepted → unpacked file out ≡ read (case_of file) out
+unpacked-is : (file out : List ℕ) → unpack_verdict file out ≡ Ok tt → unpacked file out ≡ read (case_of file) out
 unfolding unpacked unpack_ends
 unpacked-is file out e = rw e
 
@@ -107,7 +107,7 @@ record WroteFile (e d : ℕ) (rows : List ℕ) (b1 : List ℤ) (buffer : List �
   sound_are : SoundRows e d rows b1 buffer
   file-is : take n (packed_in e d rows b1 buffer).file ≡ file_in e d (units_of_rows rows b1)
 
-wrote-file : (e d : ℕ) (rows : List ℕ) (b1 : List ℤ) (buffer : List ℕ) (n : ℕ) → (packed_in e d rows b1 buffer).answer ≡ Packed.Written n → WroteFile e d rows b1 buffer n
+wrote-file : (e d : ℕ) (rows : List ℕ) (b1 : List ℤ) (buffer : List ℕ) (n : ℕ) → (packed_in e d rows b1 buffer).answer ≡ Ok n → WroteFile e d rows b1 buffer n
 unfolding packed_in
 wrote-file e d rows b1 buffer n a =
     let (accepted, long) = pack-wrote (pack_verdict e d rows b1 buffer) e d rows b1 buffer n a in
@@ -152,15 +152,15 @@ unpack_pack d rows buffer out n a h =
     let s = w.sound_are in
     let us = units_of_rows rows [] in
     let file = file_of d us in
-    let sound : file_verdict file ≡ Accepted = file-accepted 1 (omega arith) (omega arith) d us s.some s.few s.demand s.units in
+    let sound : file_verdict file ≡ Ok tt = file-accepted 1 (omega arith) (omega arith) d us s.some s.few s.demand s.units in
     let one = (edition-one file).1 (((sound-file file).0 sound).head.long, edition-read 1 (omega arith) (omega arith) d us s.some s.few s.demand s.units) in
-    let verdict : unpack_verdict file out ≡ Accepted = simp accepts (h, (one, sound)) in
+    let verdict : unpack_verdict file out ≡ Ok tt = simp accepts (h, (one, sound)) in
     ap (λ (f : List ℕ). unpacked f out) w.file-is ∙ unpacked-is file out verdict
     ∙ ap (λ (c : Case). read c out) (case_file_case 1 (omega arith) (omega arith) d us s.some s.few s.demand s.units)
-    ∙ (λ i. record { answer = Unpacked.Read d (count-is 1 d rows [] buffer i); rows = over (rows_units_rows rows [] (length us) s.whole i) out })
+    ∙ (λ i. record { answer = Ok (record { demand = d; count = count-is 1 d rows [] buffer i }); rows = over (rows_units_rows rows [] (length us) s.whole i) out })
 
 -- a file that was unpacked, of edition 1: packing the demand and the rows gives back the file
-module _ (file : List ℕ) (b : Bytes file) (verdict : file_verdict file ≡ Accepted) (one : edition file ≡ 1) where
+module _ (file : List ℕ) (b : Bytes file) (verdict : file_verdict file ≡ Ok tt) (one : edition file ≡ 1) where
   abbrev us : List Unit
   us = (case_of file).units
 

@@ -1,18 +1,7 @@
--- `text::write_text` meets its contract: what is put at place 0 stands over the buffer's start.
-use Rattle.std.proofs.Common.{ap}
-use Rattle.rules.specs.declared.Dispatched.{Dispatched}
-use Rattle.text.specs.Text.{text_of}
-use Rattle.text.proofs.Lines.{put_refused, put-text}
+-- `text::write_text` meets its contract: what is put from place 0 on stands over the buffer's start.
+use Rattle.std.proofs.Common.{refl, rules}
+use Rattle.text.proofs.Putting.{puts-over}
 use Rattle.text.proofs.write_text.Goals as goal
 
-pub returns-in-Replied : goal.returns-in-Replied
-unfolding text_of
-returns-in-Replied c =
-    let a = c.args in
-    put-text a.answer a.reply.now (ap (λ (x : Dispatched). text_of x a.reply.now) c.in-Replied.is) c.put_reply.ensures
-
-pub returns-in-Refused : goal.returns-in-Refused
-unfolding text_of
-returns-in-Refused c =
-    let a = c.args in
-    put-text a.answer a.reply.now (ap (λ (x : Dispatched). text_of x a.reply.now) c.in-Refused.is) (put_refused c.in-Refused.r c.number.result c.number.ensures c.put_field-p.ensures.0 c.put_word.ensures)
+pub returns : goal.returns
+returns c = let told = puts-over refl c.put_answer.ensures in search (rules, c.put_answer.ensures.same, told.0, told.1)

@@ -1,9 +1,0 @@
--- The end lies within the bytes.
-use Rattle.std.proofs.Common.{◌≤◌, ◌-◌, length}
-use Rattle.runner.proofs.printing.hexadecimal.Given as goal
-
-abbrev pub invariant-loop-i : goal.invariant-loop-i
-invariant-loop-i g l = l.end ≤ length l.bytes
-
-abbrev pub decreases-loop-i : goal.decreases-loop-i
-decreases-loop-i g l = l.end - l.i

@@ -1,9 +1,0 @@
--- The loop stays within the run.
-use Rattle.std.proofs.Common.{◌≤◌, ◌-◌}
-use Rattle.runner.proofs.running.print_run.Given as goal
-
-abbrev pub invariant-loop-i : goal.invariant-loop-i
-invariant-loop-i g l = l.i ≤ 41
-
-abbrev pub decreases-loop-i : goal.decreases-loop-i
-decreases-loop-i g l = 41 - l.i

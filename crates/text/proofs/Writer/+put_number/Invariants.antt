@@ -1,0 +1,5 @@
+-- It calls itself with a tenth of the number.
+use Rattle.text.proofs.Writer.+put_number.Given as goal
+
+abbrev pub decreases-put_number : goal.decreases-put_number
+decreases-put_number l = l.n
