@@ -1,3 +1,4 @@
+-- Edition, count and demand, one behind the other, are the head.
 use Rattle.rules.proofs.Encoding.Front.{front-none, front-field, front-over}
 use Rattle.packing.proofs.write_head.Goals as goal
 

@@ -1,3 +1,4 @@
+-- Each turn writes one number behind those that stand there.
 use Rattle.std.proofs.Common.{arith}
 use Rattle.fields.specs.Field.{bytes_of_each}
 use Rattle.rules.proofs.Encoding.Front.{front-none, front-each}

@@ -1,3 +1,4 @@
+-- What stands over the part after some numbers (`Front`).
 use Rattle.std.proofs.Common.{◌*◌, take}
 use Rattle.fields.specs.Field.{bytes_of_each}
 use Rattle.rules.proofs.Encoding.Front.{Front}

@@ -1,3 +1,4 @@
+-- The eleven numbers and the eight edges, copied one behind the other, are the row.
 use Rattle.std.proofs.Common.{append-nil}
 use Rattle.rules.specs.Layout.{row_of_unit}
 use Rattle.unpacking.proofs.row_of.Goals as goal

@@ -1,3 +1,4 @@
+-- Each turn writes one row more over the list: the rows written and the next one are one list longer.
 use Rattle.std.proofs.Common.{◌∙◌, ap, arith}
 use Rattle.rules.specs.Layout.{row_of_unit, rows_of_units}
 use Rattle.rules.proofs.Encoding.Front.{front-none}

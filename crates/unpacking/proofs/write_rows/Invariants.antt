@@ -1,3 +1,4 @@
+-- What stands over the list after some rows (`Front`).
 use Rattle.std.proofs.Common.{◌*◌}
 use Rattle.rules.specs.Lists.{each}
 use Rattle.rules.specs.Layout.{rows_of_units, unit_at}

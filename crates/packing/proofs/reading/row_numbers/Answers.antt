@@ -1,3 +1,4 @@
+-- The numbers taken apart and the edges copied are the unit of the row.
 use Rattle.std.proofs.Math.Facts.{to_z-of_z}
 use mir.Syntax.{w32}
 use Rattle.rules.specs.Unit.{with_loss}

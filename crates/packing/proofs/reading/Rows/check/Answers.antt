@@ -1,3 +1,4 @@
+-- The first refusal of a row is the first of all rows (`Each`).
 use Rattle.std.proofs.Common.{ap, sym, ◌∙◌, arith}
 use Rattle.std.proofs.lemmas.Result.{err_from_is_err_and}
 use Rattle.rules.specs.Refusal.{unit_verdict}

@@ -1,3 +1,4 @@
+-- The rows so far are accepted (`Checked`).
 use Rattle.rules.specs.Refusal.{unit_verdict}
 use Rattle.rules.proofs.Each.{Checked}
 use Rattle.packing.specs.Clauses.{row_count, unit_in}

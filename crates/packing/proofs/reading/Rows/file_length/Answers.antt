@@ -1,3 +1,4 @@
+-- The length so far and the length of the next body are the length with one body more.
 use Rattle.std.proofs.Common.{ap, arith}
 use Rattle.rules.specs.Unit.{Unit}
 use Rattle.packing.specs.Clauses.{unit_in}

@@ -1,3 +1,4 @@
+-- What the length is after some rows, and how great.
 use Rattle.std.proofs.Common.{◌≡◌, ◌+◌, ◌*◌, ◌≤◌}
 use Rattle.packing.specs.Clauses.{row_count, unit_in}
 use Rattle.packing.proofs.Lengths.{total}

@@ -1,3 +1,4 @@
+-- Each return is one end of the definition (`Packed`).
 use Rattle.std.proofs.Common.{sym, ◌∙◌, arith}
 use Rattle.std.proofs.lemmas.Result.{err_from_is_err_and}
 use Rattle.packing.proofs.Packed.{rows-sound, packed-rows, packed-demand, packed-row, packed-short, packed-written}

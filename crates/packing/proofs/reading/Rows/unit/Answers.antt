@@ -1,3 +1,4 @@
+-- Chunk `i` of nineteen numbers is row `i`.
 use Rattle.std.proofs.Common.{[], rules}
 use Rattle.std.proofs.Math.Facts.{to_z-of_z}
 use mir.Syntax.{w32}

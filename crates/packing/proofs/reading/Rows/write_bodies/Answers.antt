@@ -1,3 +1,4 @@
+-- Each turn writes one body behind those that stand there.
 use Rattle.std.proofs.Common.{◌≡◌, ap, ◌∙◌, arith, length-take, length-drop}
 use Rattle.rules.specs.Lists.{over}
 use Rattle.rules.specs.Unit.{Unit}

@@ -1,3 +1,4 @@
+-- What stands over the part after some bodies (`Front`), and where they end.
 use Rattle.std.proofs.Common.{◌≡◌, ◌*◌, ◌≤◌}
 use Rattle.rules.specs.Lists.{each}
 use Rattle.rules.specs.Layout.{bodies_of}

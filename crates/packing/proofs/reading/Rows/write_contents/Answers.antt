@@ -1,3 +1,4 @@
+-- Each turn writes one entry behind those that stand there.
 use Rattle.std.proofs.Common.{◌≡◌, ap, ◌∙◌, ◌+◌, ◌*◌, arith}
 use Rattle.rules.specs.Layout.{contents_from}
 use Rattle.rules.proofs.Encoding.Front.{front-none}

@@ -1,3 +1,4 @@
+-- What stands over the contents after some entries (`Front`), and where the next body begins.
 use Rattle.std.proofs.Common.{◌≡◌, ◌+◌, ◌*◌, ◌≤◌}
 use Rattle.rules.specs.Lists.{each}
 use Rattle.rules.specs.Layout.{contents_from}

@@ -1,3 +1,4 @@
+-- Head, contents and bodies, one behind the other, are the file.
 use Rattle.packing.specs.Clauses.{row_count, unit_in}
 use Rattle.packing.proofs.Written.{file-whole}
 use Rattle.packing.proofs.reading.Rows.write_file.Goals as goal
