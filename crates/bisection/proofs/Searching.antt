@@ -282,7 +282,7 @@ module _ {H : Problem → Type 0} {n : ℕ} {start : code-state.SearchState} {be
 
   module _ {f : code-state.SearchState} {trace : List ℤ} (h : Reached H n start before f trace) where
     -- adjacent ends, or finished before
-    pub adjacent : f.width ≡ 0 → f.evaluations ≤ start.most → SearchesFrom H n start before (record { best = f.best; floor = f.floor; evaluations = f.evaluations; low = 0; width = f.width; most = f.most }) trace
+    pub adjacent : f.width ≡ 0 → f.evaluations ≤ start.most → SearchesFrom H n start before (record { best = f.best; floor = f.floor; evaluations = f.evaluations; low = 0; width = 0; most = f.most }) trace
     adjacent e few =
         let w = closed f.low f.width f.evaluations h.stage h.numbers e in
         record {
@@ -290,7 +290,7 @@ module _ {H : Problem → Type 0} {n : ℕ} {start : code-state.SearchState} {be
               record {
                 stage = finished;
                 rounds = h.rounds;
-                numbers = (e, w.1);
+                numbers = (refl, w.1);
                 counted = h.counted;
                 most = h.most;
                 sized = h.sized;
@@ -298,7 +298,7 @@ module _ {H : Problem → Type 0} {n : ℕ} {start : code-state.SearchState} {be
                     let was = h.held q i s a in
                     record { best = was.best; floor = was.floor; evaluations = was.evaluations; traced = was.traced; staged = was.staged ∙ w.0 };
               };
-          ended = inl e;
+          ended = inl refl;
           few = few;
           low = λ _. refl;
         }

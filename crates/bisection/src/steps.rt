@@ -71,6 +71,7 @@ impl SearchState {
 
 // Steps 2 to 4 from where a search stands, until it is finished or has made `most` evaluations. Each turn evaluates the next
 // multiplier and halves the width; a multiplier that does not cover becomes the low end. What is evaluated is noted in the trace.
+// (A loop that gives best and floor by `break`, and no `for`: the form that the utility asked for at this place.)
 pub fn search_from(site: &Site, start: SearchState, trace: &mut [i64]) -> SearchState
     requires { Searchable site.now.coefficients site.now.ends site.now.ranges site.now.count site.now.target × Begun start }
     ensures { SearchesFrom (Holding site.now.coefficients site.now.ends site.now.ranges site.now.count site.now.target) site.now.count start trace.old result trace.new }
@@ -78,18 +79,22 @@ pub fn search_from(site: &Site, start: SearchState, trace: &mut [i64]) -> Search
     let mut state = start;
     let mut outputs = [0u16; 32];
     let mut least = [0u16; 32];
-    for k in start.evaluations..start.most {
+    let reached = loop {
         let adjacent = state.width == 0;
         if adjacent {
-            break;
+            break state.finished();
+        }
+        let spent = state.evaluations == state.most;
+        if spent {
+            break state;
         }
         let m = (state.low + state.width) % 131072;
         state.width /= 2;
         let Evaluated { cost, net, ties } = evaluation::evaluate(site, m, &mut outputs, &mut least);
         let s = Sums { cost, net };
         let dual = evaluation::dual_of(s, site.target, m);
-        note(trace, k, m, dual);
-        state.floor = evaluation::floor_of(dual).max(state.floor);
+        note(trace, state.evaluations, m, dual);
+        state.floor = greater(evaluation::floor_of(dual), state.floor);
         state.evaluations += 1;
         let covers = net >= site.target;
         if covers {
@@ -97,18 +102,17 @@ pub fn search_from(site: &Site, start: SearchState, trace: &mut [i64]) -> Search
             state.best = Allocation { outputs, cost, net };
             let free = m == 0;
             if free || net == site.target {
-                return state.finished();
+                break state.finished();
             }
         } else {
             let at_top = m == 65536;
             if at_top {
-                return state.finished();
+                break state.finished();
             }
             state.low = m;
         }
-    }
-    let low = if state.width == 0 { 0 } else { state.low };
-    SearchState { low, ..state }
+    };
+    reached
 }
 
 // Steps 2 to 4: `first` are the greatest outputs, which step 1 found to cover. Each evaluation is noted in the trace: one of 36

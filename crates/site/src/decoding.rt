@@ -43,10 +43,10 @@ fn write_range(i: usize, first: usize, last: usize, ranges: &mut [u8])
     ranges[k..k + 2].copy_from_slice(&[first as u8, last as u8]);
 }
 
-// Writes unit `i` into the arrays; gives whether it has a permitted output.
+// Writes unit `i` into the arrays, and leaves the number of units and the net; gives whether it has a permitted output.
 pub fn write_unit(u: Unit, i: usize, site: &mut Site) -> bool
     requires { UnitWritable (unit_held u) i }
-    ensures { UnitWritten (unit_held u) i site.old.coefficients site.old.ends site.old.ranges site.new.coefficients site.new.ends site.new.ranges result }
+    ensures { UnitWritten (unit_held u) i site.old.coefficients site.old.ends site.old.ranges site.new.coefficients site.new.ends site.new.ranges result × (site.new.count ≡ site.old.count) × (site.new.target ≡ site.old.target) }
 {
     write_coefficients(u, i, &mut site.coefficients);
     let start = 6 * i;

@@ -1,6 +1,8 @@
 // A site decoded once, before the search, into arrays of plain numbers (`Site`). `specs/Site` says which problem of the rules they hold.
 #![tactic(auto)]
 
+ghost use Rattle.std.specs.Prelude.{◌≡◌, replicate};
+
 mod decoding;
 
 pub use decoding::{decode, decode_with, write_unit};
@@ -22,7 +24,9 @@ pub struct Site {
 
 impl Site {
     // A site of no units, to be written by decoding.
-    pub fn empty() -> Site {
+    pub fn empty() -> Site
+        ensures { result ≡ record { coefficients = replicate 160 0; ends = replicate 384 0; ranges = replicate 64 0; count = 0; target = 0 } }
+    {
         Site {
             coefficients: [0; 160],
             ends: [0; 384],

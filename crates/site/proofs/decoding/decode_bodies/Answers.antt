@@ -45,7 +45,7 @@ loop-i-preserved c =
     let accepted =
     sym (ap₂ body_verdict c.requires.edition c.body_of-body.ensures) ∙ body-fits _ _ (c.body_fits.ensures.fits c.if-not-body_fits.false)
     ∙ sym (ap unit_verdict c.read_body-u.ensures) ∙ sym c.in_ok-check_numbers.ensures in
-    decoding_more c.loop-i.invariant (omega arith) accepted (units-more c.loop-i.invariant.written (c.read_body-u.ensures ∙ ap₂ unit_of_body c.requires.edition c.body_of-body.ensures) c.write_unit-permitted.ensures)
+    decoding_more c.loop-i.invariant (omega arith) accepted (units-more c.loop-i.invariant.written (c.read_body-u.ensures ∙ ap₂ unit_of_body c.requires.edition c.body_of-body.ensures) c.write_unit-permitted.ensures.0)
 
 pub returns-then-not-permitted : goal.returns-then-not-permitted
 returns-then-not-permitted c = decoding_ends_unserved c.loop-i.invariant c.requires (omega arith) c.if-not-permitted.true

@@ -23,7 +23,7 @@ write_unit-all_permitted-requires c =
     }
 
 pub loop-i-preserved : goal.loop-i-preserved
-loop-i-preserved c = units-more c.loop-i.invariant (c.with_previous-u.ensures ∙ ap₂ with_previous c.read_unit.ensures refl) c.write_unit-all_permitted.ensures
+loop-i-preserved c = units-more c.loop-i.invariant (c.with_previous-u.ensures ∙ ap₂ with_previous c.read_unit.ensures refl) c.write_unit-all_permitted.ensures.0
 
 pub returns : goal.returns
 returns c =
