@@ -71,7 +71,7 @@ fn write_body(part: &mut [u8], edition: u16, u: Unit)
         u.mark,
         u.zone_count,
     ];
-    let edges = &u.edges;
+    let edges = u.edges;
     let used = 2 * u.zone_count as usize;
     let width = in_second(edition, 4);
     let loss = u.b1.into_field();
@@ -96,7 +96,6 @@ impl Rows<'_> {
     }
 
     // The first refusal of the rows, in order.
-    #[inline(always)]
     fn check(self) -> Result<(), Refusal>
         ensures { result ≡ in_order (each (row_count self.entry) (λ i. unit_verdict (unit_in self.entry i))) }
     {
@@ -107,7 +106,6 @@ impl Rows<'_> {
     }
 
     // The length of the rows' file.
-    #[inline(never)]
     fn file_length(self) -> usize
         requires { AreSound self }
         ensures { result ≡ 8 + 4 * row_count self.entry + bodies_length self.entry.edition (units_in self.entry) }
@@ -151,7 +149,6 @@ impl Rows<'_> {
     }
 
     // Writes the file of a demand and the rows to the start of `file`.
-    #[inline(never)]
     fn write_file(self, file: &mut [u8], demand: u32)
         requires sound { AreSound self }
         requires in_bounds { 8 + 4 * row_count self + bodies_length self.edition (units_in self) ≤ length file.old }
@@ -165,8 +162,6 @@ impl Rows<'_> {
     }
 
     // The length of the file of a demand and the rows, which it writes to the start of `file`.
-    // (What is inlined here and what is not is for the stack of a call, which the header bounds: the checks go deepest.)
-    #[inline(always)]
     fn pack(&self, demand: u32, file: &mut [u8]) -> Result<usize, Refusal>
         ensures { packed_in self.now.edition demand self.now.numbers.now self.now.b1.now file.old ≡ record { answer = result; file = file.new } }
     {

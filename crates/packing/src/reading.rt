@@ -32,7 +32,10 @@ fn row_numbers(row: &[u32; 19], b1: i32) -> Unit
         zone_count,
         ..
     ] = *row;
-    let mut unit = Unit {
+    // (Copied: `edges @ ..` in the pattern gets no generated proof.)
+    let mut edges = [0; 8];
+    edges.copy_from_slice(&row[11..]);
+    Unit {
         c0,
         c1,
         c2,
@@ -45,11 +48,8 @@ fn row_numbers(row: &[u32; 19], b1: i32) -> Unit
         down,
         mark,
         zone_count,
-        edges: [0; 8],
-    };
-    // (Copied: `edges @ ..` in the pattern gets no generated proof.)
-    unit.edges.copy_from_slice(&row[11..]);
-    unit
+        edges,
+    }
 }
 
 // The b1 of row `i`, 0 where the list has none.

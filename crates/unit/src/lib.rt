@@ -42,7 +42,8 @@ fn zone_count_invalid(u: Unit) -> bool
     ensures { result ≡ zone_count_invalid (unit_held u) }
 {
     let used = 2 * u.zone_count as usize;
-    u.zone_count > 4 || !u.edges.iter().skip(used).all(|edge| *edge == 0)
+    let edges = u.edges;
+    u.zone_count > 4 || !edges.iter().skip(used).all(|edge| *edge == 0)
 }
 
 // Refusal 8: a coefficient above its limit.
@@ -71,10 +72,11 @@ fn zones_ascend(u: Unit) -> bool
     requires { (unit_held u).zone_count ≤ 4 }
     ensures { result ≡ zones_ascend u.least (zones (unit_held u)) u.greatest }
 {
+    let edges = u.edges;
     let mut below = u.least;
     for k in 0..u.zone_count as usize {
-        let lower = u.edges[2 * k];
-        let upper = u.edges[2 * k + 1];
+        let lower = edges[2 * k];
+        let upper = edges[2 * k + 1];
         if lower < below || upper <= lower {
             return false;
         }

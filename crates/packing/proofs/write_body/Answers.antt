@@ -13,8 +13,8 @@ use Rattle.packing.proofs.write_body.Goals as goal
 pub write_words-requires-clause-words_fit : goal.write_words-requires-clause-words_fit
 write_words-requires-clause-words_fit c = words-fit (sound (unit_held c.args.u) c.requires.u_value)
 
-pub shared_ref_as_front-write_words : goal.shared_ref_as_front-write_words
-shared_ref_as_front-write_words c =
+pub slice_bounds-edges-end : goal.slice_bounds-edges-end
+slice_bounds-edges-end c =
     let eight : length c.args.u.edges ≡ 8 = search rules in
     omega (arith, (sound (unit_held c.args.u) c.requires.u_value).zone_count)
 
