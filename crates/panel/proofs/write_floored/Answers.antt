@@ -8,7 +8,7 @@ use Rattle.panel.proofs.Answers.{no-room, room}
 use Rattle.panel.proofs.write_floored.Goals as goal
 
 pub returns-then-is_empty : goal.returns-then-is_empty
-returns-then-is_empty c = floors-short _ _ _ _ (no-room _ c.is_empty.ensures c.if-is_empty.true) refl
+returns-then-is_empty c = floors-short _ _ _ _ (no-room c.args.answers.now c.is_empty.ensures c.if-is_empty.true) refl
 
 pub overflow_cast-answers : goal.overflow_cast-answers
 overflow_cast-answers c = omega (arith, written-few _ _ _ c.floors.ensures c.in_ok-count.was)
