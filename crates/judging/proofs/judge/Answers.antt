@@ -1,5 +1,5 @@
--- `judging::judge` meets its contract: each return is one end of the definition (`Judgements`).
-use Rattle.std.proofs.Common.{sym, ◌∙◌}
+-- `judging::judge` meets its contract: each return is one end of the definition (`Judgements`). The length of a slice is read by `length-take`, so that a list that is cut is answered by its length.
+use Rattle.std.proofs.Common.{sym, ◌∙◌, arith, ℕ, length-take}
 use Rattle.std.proofs.lemmas.Result.{err_from_is_err_and}
 use Rattle.bisection.proofs.Starting.{solving}
 use Rattle.judging.proofs.Outcomes.{units-counted, held}
@@ -14,10 +14,10 @@ returns-in_err-cost c =
 pub returns-then-outputs-site : goal.returns-then-outputs-site
 returns-then-outputs-site c =
     let first = c.in_ok-cost.ensures in
-    sym (judged-count _ _ first.accepted (λ e. c.if-outputs-site.true (e ∙ sym (units-counted first.site))))
+    sym (judged-count _ _ first.accepted (λ e. omega (arith, c.if-outputs-site.true, e, units-counted first.site)))
 
 pub judge_outputs-requires : goal.judge_outputs-requires
-judge_outputs-requires c = (solving c.in_ok-cost.ensures, c.if-outputs-site.false)
+judge_outputs-requires c = (solving c.in_ok-cost.ensures, omega (arith, length-take {A = ℕ}, c.if-outputs-site.false))
 
 pub returns : goal.returns
 returns c =
